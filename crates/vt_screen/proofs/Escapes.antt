@@ -11,10 +11,13 @@ use Rattle.std.proofs.lemmas.Str.{encode_ascii, encodes-append}
 use Rattle.vt_cells.specs.Op.{csi, semicolon_list}
 use Rattle.vt_screen.specs.MadeOf.{Piece, IsCharacter, Characters, Numbered, Control, piece_text, IsOneOf, IsPiece}
 use Rattle.vt_screen.specs.MadeOf.{IsMadeOf, drawing_controls, drawing_finals, escapes, input_controls}
-use Rattle.vt_screen.specs.MadeOf.{plain_controls, reset_controls, scrolling_finals, shortened_controls, shortened_finals}
+use Rattle.vt_screen.specs.Diffs.{diff_controls, finals_with}
+use Rattle.vt_screen.specs.MadeOf.{plain_controls, reset_controls, shortened_controls, shortened_finals}
 use Rattle.vt_screen.specs.MadeOf.{state_controls}
 use Rattle.vt_screen.specs.Escapes.{BeginsWith, EscapesOnly, HasOnlyControls, HasOnlyEscapes, is_graphic, moving_controls}
 use Rattle.vt_screen.specs.Escapes.{usual_controls}
+use Rattle.vt_screen.specs.declared.repeat.Repeat.{Repeat}
+use Rattle.vt_screen.specs.declared.repeat.Repeat.TheVariants.{Never, Ascii, Any}
 
 abbrev pub is_low : ℕ → Bool
 is_low b = nat_le 0x20 b && nat_lt b 0x7F
@@ -249,14 +252,11 @@ drawing_nexts = codes "[78"
 abbrev pub state_nexts : List ℕ
 state_nexts = codes "[78=>"
 
-scrolling_low : AllLow scrolling_finals
-scrolling_low = (refl, (refl, (refl, (refl, (refl, (refl, (refl, (refl, tt))))))))
+shortened_low : AllLow shortened_finals
+shortened_low = (refl, (refl, (refl, (refl, (refl, (refl, (refl, (refl, (refl, tt)))))))))
 
--- In output that draws and moves rows, only `[`, `7` and `8` follow ESC.
-pub scrolling_only : (text : List ℕ) → IsMadeOf scrolling_finals drawing_controls text → HasOnlyEscapes drawing_nexts text
-scrolling_only text made =
-    made_only drawing_nexts scrolling_finals drawing_controls
-    (one_visible scrolling_finals scrolling_low drawing_nexts (inl refl)) (drawing_only drawing_nexts ((inr (inl refl), refl), ((inr (inr (inl refl)), refl), ((inl refl, refl), ((inl refl, refl), ((inl refl, refl), ((inl refl, refl), tt))))))) text made
+drawing_low : AllLow drawing_finals
+drawing_low = (refl, (refl, (refl, (refl, tt))))
 
 -- In output with shortened cursor movements, HT may occur, too.
 shortened_only : (bytes : List ℕ) → IsOneOf bytes shortened_controls → HasOnlyControls moving_controls drawing_nexts bytes
@@ -279,25 +279,41 @@ pub shortened_moves_only : (text : List ℕ) → IsMadeOf shortened_finals short
     HasOnlyControls moving_controls drawing_nexts text
 shortened_moves_only text made =
     made_of moving_controls drawing_nexts shortened_finals shortened_controls (escapes_more drawing_nexts)
-    (one_visible shortened_finals (refl, scrolling_low) drawing_nexts (inl refl)) shortened_only text made
-
--- A control sequence with one number contains only ESC and `[` before printable ASCII.
-pub escapes_number : (n final : ℕ) → is_low final ≡ true →
-    HasOnlyControls moving_controls drawing_nexts (csi (decimal n) final)
-escapes_number n final low =
-    escapes_more drawing_nexts (csi (decimal n) final)
-    (escapes_escape drawing_nexts (0x5B ∷ (decimal n ++ final ∷ [])) (inl refl)
-    (refl, visible_append (decimal n) (final ∷ []) (decimal_visible n) (low, tt)))
+    (one_visible shortened_finals shortened_low drawing_nexts (inl refl)) shortened_only text made
 
 pub drawn_only : (text : List ℕ) → IsMadeOf drawing_finals drawing_controls text → HasOnlyEscapes drawing_nexts text
 drawn_only text made =
     made_only drawing_nexts drawing_finals drawing_controls
-    (one_visible drawing_finals scrolling_low.1.1.1.1 drawing_nexts (inl refl)) (drawing_only drawing_nexts ((inr (inl refl), refl), ((inr (inr (inl refl)), refl), ((inl refl, refl), ((inl refl, refl), ((inl refl, refl), ((inl refl, refl), tt))))))) text made
+    (one_visible drawing_finals drawing_low drawing_nexts (inl refl)) (drawing_only drawing_nexts ((inr (inl refl), refl), ((inr (inr (inl refl)), refl), ((inl refl, refl), ((inl refl, refl), ((inl refl, refl), ((inl refl, refl), tt))))))) text made
+
+-- In a diff with REP, a control sequence may also end in the final byte of REP.
+repeated_only : (text : List ℕ) → IsMadeOf (0x62 ∷ drawing_finals) drawing_controls text → HasOnlyEscapes drawing_nexts text
+repeated_only text made =
+    made_only drawing_nexts (0x62 ∷ drawing_finals) drawing_controls
+    (one_visible (0x62 ∷ drawing_finals) (refl, drawing_low) drawing_nexts (inl refl)) (drawing_only drawing_nexts ((inr (inl refl), refl), ((inr (inr (inl refl)), refl), ((inl refl, refl), ((inl refl, refl), ((inl refl, refl), ((inl refl, refl), tt))))))) text made
+
+moved_repeated_only : (text : List ℕ) → IsMadeOf (0x62 ∷ shortened_finals) shortened_controls text →
+    HasOnlyControls moving_controls drawing_nexts text
+moved_repeated_only text made =
+    made_of moving_controls drawing_nexts (0x62 ∷ shortened_finals) shortened_controls (escapes_more drawing_nexts)
+    (one_visible (0x62 ∷ shortened_finals) (refl, shortened_low) drawing_nexts (inl refl)) shortened_only text made
+
+pub with_options_only : (repeat : Repeat) (text : List ℕ) → IsMadeOf (finals_with repeat false) (diff_controls false) text →
+    HasOnlyEscapes drawing_nexts text
+with_options_only Never text made = drawn_only text made
+with_options_only Ascii text made = repeated_only text made
+with_options_only Any text made = repeated_only text made
+
+pub with_scrolling_only : (repeat : Repeat) (text : List ℕ) → IsMadeOf (finals_with repeat true) (diff_controls true) text →
+    HasOnlyControls moving_controls drawing_nexts text
+with_scrolling_only Never text made = shortened_moves_only text made
+with_scrolling_only Ascii text made = moved_repeated_only text made
+with_scrolling_only Any text made = moved_repeated_only text made
 
 pub reset_only : (text : List ℕ) → IsMadeOf drawing_finals reset_controls text → HasOnlyEscapes drawing_nexts text
 reset_only text made =
     made_only drawing_nexts drawing_finals reset_controls
-    (one_visible drawing_finals scrolling_low.1.1.1.1 drawing_nexts (inl refl))
+    (one_visible drawing_finals drawing_low drawing_nexts (inl refl))
     (λ bytes is. by_kind bytes (either bytes (escapes reset_tails) drawing_controls is)) text made
   where
     by_kind : (bytes : List ℕ) → IsOneOf bytes (escapes reset_tails) ⊎ IsOneOf bytes drawing_controls →
@@ -310,7 +326,7 @@ reset_only text made =
 pub state_only : (text : List ℕ) → IsMadeOf drawing_finals state_controls text → HasOnlyEscapes state_nexts text
 state_only text made =
     made_only state_nexts drawing_finals state_controls
-    (one_visible drawing_finals scrolling_low.1.1.1.1 state_nexts (inl refl))
+    (one_visible drawing_finals drawing_low state_nexts (inl refl))
     (λ bytes is. by_kind bytes (either bytes input_controls drawing_controls is)) text made
   where
     by_kind : (bytes : List ℕ) → IsOneOf bytes input_controls ⊎ IsOneOf bytes drawing_controls →

@@ -73,6 +73,7 @@ pub mod RepeatSteps
 pub mod Repeated
 pub mod RepeatTokens
 mod NoRepeats
+mod PieceCuts
 pub mod RepeatedDiffs
 pub mod Replacing
 pub mod RouteLengths

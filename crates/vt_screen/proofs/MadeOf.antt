@@ -1,6 +1,6 @@
 -- The output of valid operations consists of characters and the controls used for drawing.
 use Rattle.std.proofs.Common.{◌≡◌, inl, inr, ℕ, zero, suc, ◌+◌, ◌-◌, ◌<◌, ◌≤◌, ◌==◌, Bool, true, false, List, [], ◌∷◌, ◌++◌}
-use Rattle.std.proofs.Common.{refl, sym, ap, ap₂, subst, ◌∙◌, append_assoc, append-nil, arith, if◌then◌else◌, length}
+use Rattle.std.proofs.Common.{refl, sym, ap, ap₂, subst, ◌∙◌, append_assoc, append-nil, arith, codes, if◌then◌else◌, length}
 use Rattle.std.specs.List.{AllByRecursion, flat_map}
 use Rattle.vt_cells.specs.Attrs.{default_attrs, same_attrs, Attrs}
 use Rattle.vt_cells.specs.Op.{Op, Hide, ClearAttrs, MoveTo, MoveRight, NextRow, LineFeed, Backspace, EraseBelow}
@@ -15,7 +15,7 @@ use Rattle.vt_screen.specs.Shown.{attributes_text, display, display_change, show
 use Rattle.vt_screen.proofs.Readback.{shown_range}
 use Rattle.vt_screen.proofs.Shown.{shown_colored, shown_is}
 use Rattle.vt_screen.specs.MadeOf.{Piece, IsCharacter, Characters, Numbered, Control, piece_text, IsOneOf, IsPiece, IsMadeOf}
-use Rattle.vt_screen.specs.MadeOf.{drawing_finals, drawing_controls, reset_controls, scrolling_finals}
+use Rattle.vt_screen.specs.MadeOf.{drawing_finals, drawing_controls, reset_controls}
 use Rattle.vt_screen.specs.MadeOf.{input_controls, state_controls}
 use Rattle.vt_cells.specs.Attrs.{same_bool}
 use Rattle.vt_cells.specs.InputModes.{keypad_text, application_cursor_text, bracketed_paste_text, cursor_style_text}
@@ -204,6 +204,11 @@ reset_made screen is colored =
     (λ x one. inr (inr one)) (shown_text screen) (redraw_made screen is colored))
 
 -- ---- moving rows
+
+-- The final bytes of the control sequences in drawing output that moves rows or columns, before its cursor movements are
+-- shortened: those of ICH, DCH, IL and DL, and those in `drawing_finals`.
+abbrev pub scrolling_finals : List ℕ
+scrolling_finals = codes "@PLMHCXm"
 
 abbrev IsScrollingText : List ℕ → Type 0
 IsScrollingText text = IsMadeOf scrolling_finals drawing_controls text

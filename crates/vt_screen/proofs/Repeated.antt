@@ -1,5 +1,5 @@
 -- Output in which runs are written with REP is read like the output with the runs written out.
-use Rattle.std.proofs.Common.{◌≡◌, ℕ, zero, suc, ◌+◌, ◌-◌, ◌<◌, ◌≤◌}
+use Rattle.std.proofs.Common.{◌≡◌, ◌⊎◌, inl, inr, ℕ, zero, suc, ◌+◌, ◌-◌, ◌<◌, ◌≤◌, Bool}
 use Rattle.std.proofs.Common.{List, [], ◌∷◌, ◌++◌, length, refl, sym, ap, ap₂, subst, ◌∙◌, append_assoc, append-nil}
 use Rattle.std.proofs.Common.{arith, length-append}
 use Rattle.std.specs.Char.{encode_utf8}
@@ -8,14 +8,19 @@ use Rattle.std.proofs.lemmas.List.{flat_map_more}
 use Rattle.vt_scan.specs.Automaton.{State, start}
 use Rattle.vt_scan.specs.Run.{run}
 use Rattle.vt_screen.specs.CallsOfRun.{screen_after_all, screen_in}
+use Rattle.vt_screen.specs.Diffs.{diff_controls, diff_finals}
 use Rattle.vt_screen.specs.Internals.{IsSized}
-use Rattle.vt_screen.specs.RepeatInternals.{AppendsRepeating, Finds, HasRoom, KeepsRoom, Shortens}
+use Rattle.vt_screen.specs.MadeOf.{Characters, IsMadeOf, Numbered}
+use Rattle.vt_screen.specs.RepeatInternals.{AppendsRepeating, Finds, HasRoom, KeepsPieces, KeepsPiecesBefore, KeepsRoom, Shortens}
 use Rattle.vt_screen.specs.Repeating.{HasNoRepeat, HasRuns, IsNarrow, IsReaderWithRoom, IsRepeatable, IsShortened}
 use Rattle.vt_screen.specs.Repeating.{ReadsAlike, Repeats, RepeatsInRows}
 use Rattle.vt_screen.specs.Repeating.{Run, copies, full_text, repeat_text, short_text}
 use Rattle.vt_screen.specs.Screen.{IsScreen, ScreenValue}
 use Rattle.vt_screen.specs.Steps.{Step as Action}
 use Rattle.vt_screen.specs.declared.repeat.Repeat.{Repeat}
+use Rattle.vt_screen.proofs.MadeOf.{made_append, made_more, made_nothing, made_piece}
+use Rattle.vt_screen.proofs.PieceCuts.{lines_after, lines_before, made_cut}
+use Rattle.vt_screen.proofs.Readback.{shown_range}
 use Rattle.vt_screen.proofs.RepeatRooms.{keeps_narrow, keeps_nothing}
 use Rattle.vt_screen.proofs.RepeatSteps.{AlikeFrom, NoneFrom, RowsFrom, alike_itself, alike_then, keeps_then, last_rows}
 use Rattle.vt_screen.proofs.RepeatSteps.{none_first, none_second, rows_from_then, rows_none, run_alike, sized_in}
@@ -35,6 +40,7 @@ shortens_nothing repeat width room = record {
   keeps = keeps_nothing width room;
   same = λ reader sound. record { state = refl; steps = refl; reads = refl };
   rows = λ none reader is. tt;
+  pieces = λ scroll rest made. (made, made_nothing (0x62 ∷ diff_finals scroll) (diff_controls scroll));
 }
 
 all_shortened : (repeat : Repeat) (xs ys : List Run) → AllByRecursion (IsShortened repeat) xs →
@@ -161,6 +167,49 @@ run_rows repeat width room mid left plain text front n c s keeps is none reader 
     (sym (ap (λ (steps : List Action). screen_after_all steps reader) old.steps))
     (at_start (λ (t : State). RowsFrom t screen (front ++ run_text)) width room mid plain s.keeps rest)))
 
+-- Pieces of a diff without REP, as pieces of a diff with REP.
+with_repeat : (scroll : Bool) (text : List ℕ) → IsMadeOf (diff_finals scroll) (diff_controls scroll) text →
+    IsMadeOf (0x62 ∷ diff_finals scroll) (diff_controls scroll) text
+with_repeat scroll text made =
+    made_more (diff_finals scroll) (0x62 ∷ diff_finals scroll) (diff_controls scroll) (diff_controls scroll)
+    (λ x one. inr one) (λ x one. one) text made
+
+run_made : (scroll : Bool) (n c : ℕ) → IsNarrow c →
+    IsMadeOf (0x62 ∷ diff_finals scroll) (diff_controls scroll) (encode_utf8 c ++ repeat_text n)
+run_made scroll n c is =
+    let finals = 0x62 ∷ diff_finals scroll in
+    let controls = diff_controls scroll in
+    made_append finals controls (encode_utf8 c) (repeat_text n)
+    (subst (IsMadeOf finals controls) (append-nil (encode_utf8 c))
+    (made_piece finals controls (Characters (c ∷ [])) ((is.drawn.scalar, shown_range c is.drawn.shown), tt)))
+    (made_piece finals controls (Numbered (n ∷ []) 0x62) (inl refl))
+
+narrow_low : (c : ℕ) → IsNarrow c → 0x20 ≤ c
+narrow_low c is = by_range (shown_range c is.drawn.shown) where
+  by_range : ((0x20 ≤ c) × (c < 0x7F)) ⊎ (0xA0 ≤ c) → 0x20 ≤ c
+  by_range (inl h) = h.0
+  by_range (inr h) = omega (arith, h)
+
+run_pieces : (width mid left : ℕ) (plain text front : List ℕ) (n c : ℕ) → KeepsPiecesBefore plain text →
+    KeepsRoom width mid (suc n + left) front → IsNarrow c →
+    KeepsPiecesBefore (plain ++ (front ++ copies (suc n) c)) (text ++ (front ++ (encode_utf8 c ++ repeat_text n)))
+run_pieces width mid left plain text front n c before keeps is scroll rest made =
+    let full = copies (suc n) c in
+    let finals = 0x62 ∷ diff_finals scroll in
+    let controls = diff_controls scroll in
+    let low = narrow_low c is in
+    let so_far = before scroll (front ++ (full ++ rest))
+    (subst (IsMadeOf (diff_finals scroll) controls)
+    (append_assoc plain (front ++ full) rest ∙ ap (λ (t : List ℕ). plain ++ t) (append_assoc front full rest)) made) in
+    let at_front = made_cut scroll front (full ++ rest) so_far.0 keeps.ground (lines_before front n c rest low) in
+    let at_rest = made_cut scroll full rest at_front.second (copies_keep width left (suc n) c is).ground
+    (lines_after (suc n) c rest low) in (
+      at_rest.second,
+      made_append finals controls text (front ++ (encode_utf8 c ++ repeat_text n)) so_far.1
+          (made_append finals controls front (encode_utf8 c ++ repeat_text n) (with_repeat scroll front at_front.first)
+          (run_made scroll n c is)),
+    )
+
 -- The output so far, and one run more.
 shortens_run : (repeat : Repeat) (width room mid left : ℕ) (plain text front : List ℕ) (n c : ℕ) →
     Shortens repeat width room mid plain text → KeepsRoom width mid (suc n + left) front → IsRun repeat n c →
@@ -172,6 +221,7 @@ shortens_run repeat width room mid left plain text front n c s keeps is = record
       (keeps_then width mid (suc n + left) left front (copies (suc n) c) keeps (copies_keep width left (suc n) c is.narrow));
   same = run_same repeat width room mid left plain text front n c s keeps is;
   rows = run_rows repeat width room mid left plain text front n c s keeps is;
+  pieces = run_pieces width mid left plain text front n c s.pieces keeps is.narrow;
 }
 
 shorter_runs : (repeat : Repeat) (runs : List Run) → AllByRecursion (IsShortened repeat) runs →
@@ -276,4 +326,12 @@ written_end repeat width room left text rest start now after w e = record {
   bytes = e ∙ ap (λ (t : List ℕ). t ++ rest) w.bytes ∙ append_assoc start w.added rest;
   repeats = subst (λ (t : List ℕ). Repeats repeat width room t (w.added ++ rest)) (sym w.whole)
       (shortens_end repeat width room left w.done w.added rest w.shortens);
+  pieces = λ scroll made.
+      let parts = w.shortens.pieces scroll rest
+      (subst (IsMadeOf (diff_finals scroll) (diff_controls scroll)) w.whole made) in
+      made_append (0x62 ∷ diff_finals scroll) (diff_controls scroll) w.added rest parts.1 (with_repeat scroll rest parts.0);
 }
+
+-- The pieces of output that is unchanged.
+pub pieces_kept : (text : List ℕ) → KeepsPieces text text
+pieces_kept text scroll made = with_repeat scroll text made

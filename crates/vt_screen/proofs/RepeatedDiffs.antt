@@ -9,7 +9,9 @@ use Rattle.vt_scan.specs.Automaton.{start}
 use Rattle.vt_screen.specs.Again.{IsNoCallback, KeepsAside, LeavesPlain}
 use Rattle.vt_screen.specs.CallsOfRun.{screen_after_all, screen_in}
 use Rattle.vt_screen.specs.DiffInternals.{IsPlainDiff}
-use Rattle.vt_screen.specs.Diffs.{KeepsScreensPlain, MayRepeat, RepeatsOnlyInRows}
+use Rattle.vt_screen.specs.Diffs.{KeepsScreensPlain, MayRepeat, RepeatsOnlyInRows, diff_controls, diff_finals, finals_with}
+use Rattle.vt_screen.specs.MadeOf.{IsMadeOf}
+use Rattle.vt_screen.specs.RepeatInternals.{KeepsPieces}
 use Rattle.vt_screen.specs.Repeating.{HasRuns, IsReaderWithRoom, IsShortened, ReadsAlike, Repeats, Run}
 use Rattle.vt_screen.specs.Repeating.{full_text, repeat_text, short_text}
 use Rattle.vt_screen.specs.Screen.{IsScreen, ScreenValue}
@@ -154,3 +156,11 @@ pub diff_empty : (repeat : Repeat) (scroll : Bool) (was new : ScreenValue) (plai
 diff_empty repeat scroll was new plain text is may steady empty =
     let has = (of_may_repeat repeat was plain text may).runs in
     is.empty steady (runs_nothing has.runs has.rest plain text has.in_full has.in_short empty)
+
+pub diff_made : (repeat : Repeat) (scroll : Bool) (was new : ScreenValue) (plain text : List ℕ) →
+    IsPlainDiff scroll was new plain → MayRepeat repeat was plain text → KeepsPieces plain text →
+    IsMadeOf (finals_with repeat scroll) (diff_controls scroll) text
+diff_made Never scroll was new plain text is may keeps =
+    subst (IsMadeOf (diff_finals scroll) (diff_controls scroll)) (sym may) is.controls
+diff_made Ascii scroll was new plain text is may keeps = keeps scroll is.controls
+diff_made Any scroll was new plain text is may keeps = keeps scroll is.controls

@@ -9,14 +9,14 @@ use Rattle.vt_redraw.specs.Shifted.{IsMoving}
 use Rattle.vt_scan.specs.Automaton.{start}
 use Rattle.vt_screen.specs.Again.{KeepsPlain}
 use Rattle.vt_screen.specs.Gaps.{IsShortVersion, ReplacesWhole, Tracks, known_at_start, picture_cell}
-use Rattle.vt_screen.specs.MadeOf.{IsMadeOf, drawing_controls, scrolling_finals, shortened_controls, shortened_finals}
+use Rattle.vt_screen.specs.MadeOf.{IsMadeOf, drawing_controls, shortened_controls, shortened_finals}
 use Rattle.vt_screen.specs.Reading.{terminal, terminal_after}
 use Rattle.vt_screen.specs.Screen.{IsColored, IsScreen, ScreenValue}
 use Rattle.vt_screen.specs.ShortMoves.{IsAt, IsShortMoving, known_cursor}
 use Rattle.vt_screen.specs.declared.short_moves.known.Known.{Known}
 use Rattle.vt_screen.specs.Shown.{IsReaderOf, IsSameIfEmpty, RedrawsFrom, display}
 use Rattle.vt_screen.proofs.ContentTexts.{none_refused}
-use Rattle.vt_screen.proofs.MadeOf.{made_more, moving_made}
+use Rattle.vt_screen.proofs.MadeOf.{made_more, moving_made, scrolling_finals}
 use Rattle.vt_screen.proofs.MovedRead.{AreDiffed}
 use Rattle.vt_screen.proofs.ShiftedAgain.{moving_keeps}
 use Rattle.vt_screen.proofs.ShiftedRead.{moving_redraws, moving_tells}

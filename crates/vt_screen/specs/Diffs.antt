@@ -1,5 +1,5 @@
 -- Diffs with options: whether the diff may move rows and columns, and which characters may be repeated with REP.
-use Rattle.std.specs.Prelude.{◌≡◌, ◌-◌, ℕ, Bool, true, false, List}
+use Rattle.std.specs.Prelude.{◌≡◌, ◌-◌, ℕ, Bool, true, false, List, ◌∷◌}
 use Rattle.vt_screen.specs.Again.{LeavesPlain}
 use Rattle.vt_screen.specs.MadeOf.{IsMadeOf, drawing_controls, drawing_finals, shortened_controls, shortened_finals}
 use Rattle.vt_screen.specs.Repeating.{Repeats, RepeatsInRows}
@@ -26,6 +26,12 @@ diff_finals false = drawing_finals
 abbrev pub diff_controls : (scroll : Bool) → List (List ℕ)
 diff_controls true = shortened_controls
 diff_controls false = drawing_controls
+
+-- The final bytes of the control sequences with numeric parameters that may occur in a diff with options: those of a
+-- diff without REP, and that of REP unless no character is repeatable.
+abbrev pub finals_with : Repeat → (scroll : Bool) → List ℕ
+finals_with Never scroll = diff_finals scroll
+finals_with repeat scroll = 0x62 ∷ diff_finals scroll
 
 -- The output `text` is `plain` with some runs of repeatable characters written with REP, for terminals that have the
 -- width and the cursor column of the screen `was`. If no character is repeatable, `text` equals `plain`.

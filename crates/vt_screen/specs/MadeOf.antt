@@ -56,13 +56,8 @@ drawing_controls =
     (0x0D ∷ 0x0A ∷ []) ∷ (0x0A ∷ []) ∷ (0x08 ∷ [])
     ∷ escapes (codes "7" ∷ codes "8" ∷ codes "[?25h" ∷ codes "[?25l" ∷ codes "[J" ∷ codes "[K" ∷ [])
 
--- The final bytes of the control sequences that may occur in drawing output that moves rows or columns: those of ICH,
--- DCH, IL and DL, and those in `drawing_finals`.
-abbrev pub scrolling_finals : List ℕ
-scrolling_finals = codes "@PLMHCXm"
-
--- The final bytes of the control sequences that may occur in drawing output whose cursor movements have been
--- shortened: that of CHA, and those in `scrolling_finals`.
+-- The final bytes of the control sequences that may occur in drawing output that moves rows or columns and whose cursor
+-- movements have been shortened: those of CHA, ICH, DCH, IL and DL, and those in `drawing_finals`.
 abbrev pub shortened_finals : List ℕ
 shortened_finals = codes "G@PLMHCXm"
 

@@ -1,14 +1,16 @@
 -- Lower bounds on the number of columns left in the cursor's row while a terminal reads output; only for contracts of
 -- private functions and for proofs.
 use Rattle.std.proofs.Common.{IsUtf8}
-use Rattle.std.specs.Prelude.{◌≡◌, ◌⊎◌, ℕ, suc, true, false, ◌+◌, ◌-◌, ◌<◌, ◌≤◌, List, ◌++◌, drop, length, take}
+use Rattle.std.specs.Prelude.{◌≡◌, ◌⊎◌, ℕ, suc, Bool, true, false, ◌+◌, ◌-◌, ◌<◌, ◌≤◌, List, ◌∷◌, ◌++◌, drop, length, take}
 use Rattle.std.specs.Char.{encode_utf8}
 use Rattle.vt_cells.specs.Op.{Hide, bytes_of}
 use Rattle.vt_scan.specs.Automaton.{start}
 use Rattle.vt_scan.specs.Run.{run}
 use Rattle.vt_scan.specs.Texts.{IsParameterText}
 use Rattle.vt_screen.specs.CallsOfRun.{screen_in}
+use Rattle.vt_screen.specs.Diffs.{diff_controls, diff_finals}
 use Rattle.vt_screen.specs.Internals.{IsSized}
+use Rattle.vt_screen.specs.MadeOf.{IsMadeOf}
 use Rattle.vt_screen.specs.Repeating.{HasNoRepeat, HasRuns, IsNarrow, IsReaderWithRoom, IsRepeatable, ReadsAlike}
 use Rattle.vt_screen.specs.Repeating.{Repeats, RepeatsInRows, copies, repeat_text}
 use Rattle.vt_screen.specs.Screen.{IsScreen, ScreenValue}
@@ -74,6 +76,19 @@ pub record BeginsWithVisibility (bytes : List ℕ) : Type 0 where
   pub inside : 6 ≤ length bytes
   pub is : (take 6 bytes ≡ bytes_of (Hide false)) ⊎ (take 6 bytes ≡ bytes_of (Hide true))
 
+-- If the output `plain` is made of the pieces of a diff without REP, then `text` is made of such pieces and of REP.
+abbrev pub KeepsPieces : (plain text : List ℕ) → Type 0
+KeepsPieces plain text = (scroll : Bool) → IsMadeOf (diff_finals scroll) (diff_controls scroll) plain →
+    IsMadeOf (0x62 ∷ diff_finals scroll) (diff_controls scroll) text
+
+-- If `plain` followed by `rest` is made of the pieces of a diff without REP, then `rest` is made of such pieces, too, and
+-- `text` is made of such pieces and of REP.
+abbrev pub KeepsPiecesBefore : (plain text : List ℕ) → Type 0
+KeepsPiecesBefore plain text = (scroll : Bool) (rest : List ℕ) →
+    IsMadeOf (diff_finals scroll) (diff_controls scroll) (plain ++ rest) →
+    IsMadeOf (diff_finals scroll) (diff_controls scroll) rest
+    × IsMadeOf (0x62 ∷ diff_finals scroll) (diff_controls scroll) text
+
 -- The output `text` is `plain` with some runs of repeatable characters written with REP. If at least `room` columns were
 -- left in the cursor's row before the output, at least `left` columns remain after it.
 pub record Shortens (repeat : Repeat) (width room left : ℕ) (plain text : List ℕ) : Type 0 where
@@ -81,6 +96,7 @@ pub record Shortens (repeat : Repeat) (width room left : ℕ) (plain text : List
   pub keeps : KeepsRoom width room left plain
   pub same : (reader : ScreenValue) → IsScreen reader → ReadsAlike plain text reader
   pub rows : HasNoRepeat plain → (reader : ScreenValue) → IsReaderWithRoom width room reader → RepeatsInRows text reader
+  pub pieces : KeepsPiecesBefore plain text
 
 -- The text `new` is `start` followed by `plain` with some runs of repeatable characters written with REP, as `Repeats`
 -- describes.
@@ -88,3 +104,4 @@ pub record AppendsRepeating (repeat : Repeat) (start new : List ℕ) (width room
   pub added : List ℕ
   pub bytes : new ≡ start ++ added
   pub repeats : Repeats repeat width room plain added
+  pub pieces : KeepsPieces plain added

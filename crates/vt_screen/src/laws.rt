@@ -1,7 +1,7 @@
 //! Laws about what screens display. These functions do nothing when called;
 //! their clauses state what is proved.
 
-ghost use Rattle.std.specs.Prelude.{[], codes, ◌≡◌, ◌+◌, ◌<◌, ◌≤◌, ◌↔◌, ℕ, List, suc, ◌++◌, length, replicate};
+ghost use Rattle.std.specs.Prelude.{[], codes, ◌≡◌, ◌+◌, ◌<◌, ◌≤◌, ◌↔◌, ℕ, List, suc, ◌++◌, false, length, replicate, true};
 ghost use Rattle.vt_grid.specs.Page.{SameSize};
 ghost use Rattle.vt_redraw.specs.Locality.{row_of_picture};
 ghost use Rattle.vt_redraw.specs.Picture.{IsPicture, SamePictureSize};
@@ -12,9 +12,10 @@ ghost use Rattle.vt_scan.specs.Automaton.{State};
 ghost use Rattle.vt_scan.specs.Selectors.{ReadsNoSelector};
 ghost use Rattle.vt_screen.specs.Capture.{basic_texts};
 ghost use Rattle.vt_screen.specs.Contents.{between_of, contents_of};
+ghost use Rattle.vt_screen.specs.Diffs.{diff_controls, finals_with};
 ghost use Rattle.vt_screen.specs.Escapes.{HasOnlyControls, HasOnlyEscapes, moving_controls};
 ghost use Rattle.vt_screen.specs.MadeOf.{IsMadeOf, capture_finals, drawing_controls, drawing_finals, plain_controls};
-ghost use Rattle.vt_screen.specs.MadeOf.{reset_controls, scrolling_finals, shortened_controls, shortened_finals, state_controls};
+ghost use Rattle.vt_screen.specs.MadeOf.{reset_controls, shortened_controls, shortened_finals, state_controls};
 ghost use Rattle.vt_screen.specs.Pages.{screen_after_resize};
 ghost use Rattle.vt_screen.specs.Screen.{IsScreen, ScreenValue, fresh_screen, scrolled_back, visible_row, visible_rows};
 ghost use Rattle.vt_screen.specs.Selectors.{HasNoSelectors};
@@ -22,6 +23,7 @@ ghost use Rattle.vt_screen.specs.Shown.{ShowSamePage, ShowsNoSelector, ShowsOwnP
 ghost use Rattle.vt_screen.specs.Steps.{EraseScrollback, screen_after};
 ghost use Rattle.vt_screen.specs.Streamed.{AreSameTrimmed, HasNoRis, HasWideFlags, without_scrollback, rows_of_calls, sent_off_in};
 ghost use Rattle.vt_screen.specs.CallsOfRun.{calls_in, screen_in};
+ghost use Rattle.vt_screen.specs.declared.repeat.Repeat.{Repeat};
 
 /// States that the display of a screen has the screen's size, and that two screens have the same
 /// size if and only if their displays do (clause `sizes`).
@@ -149,17 +151,21 @@ pub fn wide_flags()
 /// function, based on the function's clause `controls`.
 ///
 /// Once decoded, the output contains no controls (C0, C1 or DEL) except BS, LF,
-/// CR and ESC and, in scrolling diffs, HT (clause `shortened`). In output that
-/// draws (clauses `drawing`, `scrolling`, `shortened`, `reset`), each ESC is
-/// followed by `[`, `7` or `8`. In output that also sets modes (clause `state`),
-/// an ESC may also be followed by `=` or `>`. In captures, each ESC is followed
-/// by `[`. Plain text contains no ESC.
+/// CR and ESC and, in scrolling diffs, HT (clauses `shortened`,
+/// `with_scrolling`). In output that draws (clauses `drawing`, `shortened`,
+/// `with_options`, `with_scrolling`, `reset`), each ESC is followed by `[`, `7`
+/// or `8`. In output that also sets modes (clause `state`), an ESC may also be
+/// followed by `=` or `>`. In captures, each ESC is followed by `[`. Plain text
+/// contains no ESC. The clauses `with_options` and `with_scrolling` are for
+/// `contents_diff_with` without and with the option `scroll`.
 pub fn escapes()
     ensures drawing { (text : List ℕ) → IsMadeOf drawing_finals drawing_controls text →
         HasOnlyEscapes (codes "[78") text }
-    ensures scrolling { (text : List ℕ) → IsMadeOf scrolling_finals drawing_controls text →
-        HasOnlyEscapes (codes "[78") text }
     ensures shortened { (text : List ℕ) → IsMadeOf shortened_finals shortened_controls text →
+        HasOnlyControls moving_controls (codes "[78") text }
+    ensures with_options { (repeat : Repeat) (text : List ℕ) → IsMadeOf (finals_with repeat false) (diff_controls false) text →
+        HasOnlyEscapes (codes "[78") text }
+    ensures with_scrolling { (repeat : Repeat) (text : List ℕ) → IsMadeOf (finals_with repeat true) (diff_controls true) text →
         HasOnlyControls moving_controls (codes "[78") text }
     ensures reset { (text : List ℕ) → IsMadeOf drawing_finals reset_controls text → HasOnlyEscapes (codes "[78") text }
     ensures state { (text : List ℕ) → IsMadeOf drawing_finals state_controls text → HasOnlyEscapes (codes "[78=>") text }

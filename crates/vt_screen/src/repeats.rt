@@ -19,7 +19,7 @@ ghost use Rattle.vt_scan.specs.Parameters.{table_of};
 ghost use Rattle.vt_scan.specs.Texts.{IsParameterText};
 ghost use Rattle.vt_screen.specs.MadeOf.{IsOneOf};
 ghost use Rattle.vt_screen.specs.RepeatInternals.{AppendsRepeating, BeginsRun, BeginsWithVisibility, Finds};
-ghost use Rattle.vt_screen.specs.RepeatInternals.{IsFinalAt, KeepsRoom, Skips};
+ghost use Rattle.vt_screen.specs.RepeatInternals.{IsFinalAt, KeepsPieces, KeepsRoom, Skips};
 ghost use Rattle.vt_screen.specs.Repeating.{Repeats, copies, repeat_text};
 ghost use Rattle.vt_screen.specs.ShortMoves.{IsAsciiCharacter};
 ghost use Rattle.vt_screen.specs.TextResults.{IfText};
@@ -70,6 +70,7 @@ pub fn with_repeats(
     room: u16,
 ) -> Result<String, Error>
     ensures text { IfText result (Repeats repeat cols room (string_bytes text)) }
+    ensures pieces { IfText result (KeepsPieces (string_bytes text)) }
     ensures memory { OnlyOutOfMemory result }
     ensures nonempty { RefusedOnlyIfSome result (string_bytes text) }
 {

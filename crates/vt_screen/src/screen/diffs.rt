@@ -6,6 +6,9 @@ ghost use Rattle.vt_grid.specs.Page.{SameSize};
 ghost use Rattle.vt_redraw.specs.Refusals.{RefusedOnlyIfSome};
 ghost use Rattle.vt_screen.specs.DiffInternals.{IsPlainDiff};
 ghost use Rattle.vt_screen.specs.Diffs.{IsDiffWith, KeepsScreensPlain, MayRepeat, RepeatsOnlyInRows};
+ghost use Rattle.vt_screen.specs.Diffs.{diff_controls, finals_with};
+ghost use Rattle.vt_screen.specs.MadeOf.{IsMadeOf};
+ghost use Rattle.vt_screen.specs.RepeatInternals.{KeepsPieces};
 ghost use Rattle.vt_screen.specs.Shown.{IsSameIfEmpty, RedrawsFrom, display, display_change, shown_text};
 ghost use Rattle.vt_screen.specs.TextResults.{IfText};
 
@@ -26,6 +29,9 @@ impl Screen {
     /// that is shorter. Some terminals ignore REP, and tmux 3.3a performs it only after ASCII
     /// characters, so allow only what the receiving terminal performs. With `Repeat::Never`, the
     /// output is that of `contents_diff` or, with `scroll`, of `contents_diff_scrolling`.
+    ///
+    /// The output contains only controls that draw and, if `repeat` allows any character, REP
+    /// (clause `controls`).
     ///
     /// The output is never longer than that of `contents_diff` (clause `shorter`) or, with `scroll`,
     /// than the full redraw (clause `redraw`). Every terminal in ground state takes the same steps
@@ -55,6 +61,8 @@ impl Screen {
     pub fn contents_diff_with(&self, prev: &Screen, options: DiffOptions) -> Result<String, Error>
         requires { SameSize self.now.page prev.now.page }
         ensures text { IfText result (IsDiffWith options prev.now self.now) }
+        ensures controls { IfText result
+            (IsMadeOf (finals_with options.repeat options.scroll) (diff_controls options.scroll)) }
         ensures rows { IfText result (RepeatsOnlyInRows prev.now self.now) }
         ensures again { IfText result KeepsScreensPlain }
         ensures shorter { IfText result (λ text. length text ≤ length (display_change prev.now self.now)) }
@@ -106,6 +114,7 @@ impl Screen {
         repeat: Repeat,
     ) -> Result<String, Error>
         ensures text { IfText result (MayRepeat repeat prev.now (string_bytes plain)) }
+        ensures pieces { IfText result (KeepsPieces (string_bytes plain)) }
         ensures memory { OnlyOutOfMemory result }
         ensures nonempty { RefusedOnlyIfSome result (string_bytes plain) }
     {

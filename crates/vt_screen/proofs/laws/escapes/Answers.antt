@@ -1,14 +1,18 @@
-use Rattle.vt_screen.proofs.Escapes.{capture_only, drawn_only, plain_only, reset_only, scrolling_only, shortened_moves_only, state_only}
+use Rattle.vt_screen.proofs.Escapes.{capture_only, drawn_only, plain_only, reset_only, shortened_moves_only, state_only}
+use Rattle.vt_screen.proofs.Escapes.{with_options_only, with_scrolling_only}
 use Rattle.vt_screen.proofs.laws.escapes.Goals as goal
 
 pub returns-clause-drawing : goal.returns-clause-drawing
 returns-clause-drawing c = drawn_only
 
-pub returns-clause-scrolling : goal.returns-clause-scrolling
-returns-clause-scrolling c = scrolling_only
-
 pub returns-clause-shortened : goal.returns-clause-shortened
 returns-clause-shortened c = shortened_moves_only
+
+pub returns-clause-with_options : goal.returns-clause-with_options
+returns-clause-with_options c = with_options_only
+
+pub returns-clause-with_scrolling : goal.returns-clause-with_scrolling
+returns-clause-with_scrolling c = with_scrolling_only
 
 pub returns-clause-reset : goal.returns-clause-reset
 returns-clause-reset c = reset_only

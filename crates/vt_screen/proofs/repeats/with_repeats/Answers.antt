@@ -1,4 +1,4 @@
-use Rattle.vt_screen.proofs.Repeated.{repeats_itself}
+use Rattle.vt_screen.proofs.Repeated.{pieces_kept, repeats_itself}
 use Rattle.vt_screen.proofs.repeats.with_repeats.Goals as goal
 
 pub returns-then-eq-clause-text : goal.returns-then-eq-clause-text
@@ -6,3 +6,9 @@ returns-then-eq-clause-text c = repeats_itself c.args.repeat c.args.cols c.args.
 
 pub returns-in-Ok-false-clause-text : goal.returns-in-Ok-false-clause-text
 returns-in-Ok-false-clause-text c = repeats_itself c.args.repeat c.args.cols c.args.room _
+
+pub returns-then-eq-clause-pieces : goal.returns-then-eq-clause-pieces
+returns-then-eq-clause-pieces c = pieces_kept _
+
+pub returns-in-Ok-false-clause-pieces : goal.returns-in-Ok-false-clause-pieces
+returns-in-Ok-false-clause-pieces c = pieces_kept _

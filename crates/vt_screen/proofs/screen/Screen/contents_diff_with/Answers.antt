@@ -2,7 +2,7 @@ use Rattle.std.proofs.Common.{string_bytes}
 use Rattle.vt_screen.specs.Shown.{display}
 use Rattle.vt_screen.proofs.ContentTexts.{none_refused}
 use Rattle.vt_screen.proofs.EqualTexts.{difference_none}
-use Rattle.vt_screen.proofs.RepeatedDiffs.{diff_again, diff_empty, diff_none, diff_redraw, diff_redraws, diff_rows}
+use Rattle.vt_screen.proofs.RepeatedDiffs.{diff_again, diff_empty, diff_made, diff_none, diff_redraw, diff_redraws, diff_rows}
 use Rattle.vt_screen.proofs.screen.Screen.contents_diff_with.Goals as goal
 
 pub returns-clause-text : goal.returns-clause-text
@@ -48,3 +48,8 @@ pub returns-clause-redraw : goal.returns-clause-redraw
 returns-clause-redraw c scrolls =
     diff_redraw c.args.options.repeat c.args.options.scroll c.args.prev.now c.args.self.now (string_bytes c.in_ok-plain.plain)
     (string_bytes c.in_ok-text.text) c.in_ok-plain.ensures.text c.in_ok-text.ensures.text scrolls
+
+pub returns-clause-controls : goal.returns-clause-controls
+returns-clause-controls c =
+    diff_made c.args.options.repeat c.args.options.scroll c.args.prev.now c.args.self.now (string_bytes c.in_ok-plain.plain)
+    (string_bytes c.in_ok-text.text) c.in_ok-plain.ensures.text c.in_ok-text.ensures.text c.in_ok-text.ensures.pieces
