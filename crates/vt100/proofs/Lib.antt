@@ -16,3 +16,4 @@ pub mod Streams
 pub mod Sizes
 pub mod Fresh
 mod Again
+mod Diffs

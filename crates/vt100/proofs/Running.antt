@@ -17,10 +17,12 @@ use Rattle.vt_scan.specs.declared.table.Kind.{Kind}
 use Rattle.vt_scan.specs.declared.table.Kind.TheVariants.{OscString}
 use Rattle.vt_scan.specs.declared.table.Transition.TheVariants.{Collect}
 use Rattle.vt_scan.proofs.Running.{run-append}
-use Rattle.vt_screen.specs.Run.{CallRelation, Performs, Breaks, StopsIn}
+use Rattle.vt_screen.specs.Run as act
+use Rattle.vt_screen.specs.Run.{CallRelation, Performs, Breaks, StopsIn, state}
+use Rattle.vt_screen.specs.Screen.{ScreenValue}
 use Rattle.vt100.specs.Internals.{ReadsOrStops}
-use Rattle.vt100.specs.Parser.{CallsByLast, ParserValue, Ran, Stopped, StoppedAt, StoppedBefore, StoppedWithin, Collects}
-use Rattle.vt100.specs.Parser.{pieces_joined, stage}
+use Rattle.vt100.specs.Parser.{CallsByLast, IsSilent, ParserValue, Ran, Stopped, StoppedAt, StoppedBefore, StoppedWithin}
+use Rattle.vt100.specs.Parser.{Collects, invokes_none, pieces_joined, stage}
 use Rattle.vt100.proofs.Refusing.{stopped_at_after}
 
 pub stops_first : {P A : Type 0} (R T : P → A → P → Type 0) (xs ys : List A) (p q : P) →
@@ -209,12 +211,42 @@ read_after_quiet does p q r bytes (Err count) nothing reads =
 
 -- ---- which callbacks are invoked, and when
 
--- If only the last byte of a text has events, this is also true if bytes without events come before the text.
-pub led_by_last : {S : Type 0} (old new : S) (before led : ScannerValue) (bytes : List ℕ) (k n : ℕ)
-    → FeedsAll before (take k bytes) led [] → CallsByLast old led (drop k bytes) n new
-    → CallsByLast old before bytes (k + n) new
-led_by_last old new before led bytes k n fed last = elim last [
-  | inl same ↦ inl same
+-- Bytes whose events are known invoke no callbacks if all steps of these events can be taken without callbacks.
+pub silent_folds : (before after : ScreenValue) (held now : ScannerValue) (bytes : List ℕ) (events : List Event) →
+    FeedsAll held bytes now events → FoldsTo (Performs invokes_none) (state tt before) events (state tt after) →
+    IsSilent before held bytes
+silent_folds before after held now bytes events fed folds s stands = (
+  after,
+  subst (λ (known : List Event). FoldsTo (Performs invokes_none) (state tt before) known (state tt after))
+      (sym (fed s stands).1) folds,
+)
+
+-- Bytes without events invoke no callbacks.
+pub silent_none : (before : ScreenValue) (held now : ScannerValue) (bytes : List ℕ) → FeedsAll held bytes now [] →
+    IsSilent before held bytes
+silent_none before held now bytes fed = silent_folds before before held now bytes [] fed refl
+
+-- If only the last byte of a text invokes callbacks, this is also true if bytes without events come before the text.
+pub led_by_last : {S : Type 0} (old new : S) (shown : ScreenValue) (before led : ScannerValue) (bytes : List ℕ) (k n : ℕ)
+    → FeedsAll before (take k bytes) led [] → CallsByLast old shown led (drop k bytes) n new
+    → CallsByLast old shown before bytes (k + n) new
+led_by_last old new shown before led bytes k n fed last = elim last [
+  | inl same ↦
+      inl (
+        same.0,
+        λ s stands.
+            let first = fed s stands in
+            let later = same.1 (run s (take k bytes)).state first.0 in
+            let left = take n (drop k bytes) in
+            let known : (run s (take (k + n) bytes)).events ≡ (run (run s (take k bytes)).state left).events =
+            ap (λ (text : List ℕ). (run s text).events) (take-add k n bytes)
+            ∙ ap (λ (step : Step). step.events) (run-append s (take k bytes) left)
+            ∙ ap (λ (events : List Event). events ++ (run (run s (take k bytes)).state left).events) first.1 in (
+              later.0,
+              subst (λ (events : List Event). FoldsTo (Performs invokes_none) (state tt shown) events (state tt later.0))
+                  (sym known) later.1,
+            ),
+      )
   | inr some ↦
       let cut : take (k + n - 1) bytes ≡ take k bytes ++ take (n - 1) (drop k bytes) =
       ap (λ (m : ℕ). take m bytes) (omega (arith, some.0)) ∙ take-add k (n - 1) bytes in
@@ -234,18 +266,29 @@ pub map_some : (P Q : ℕ → Type 0) (result : Result ℕ ℕ) → ((k : ℕ) �
 map_some P Q (Ok k) f h = f k h
 map_some P Q (Err error) f h = tt
 
--- If only the last byte of a call has events, this stays so after a run over no bytes.
+-- If only the last byte of a call invokes callbacks, this stays so after a run over no bytes.
 pub later_by_last : {S : Type 0} (does : CallRelation S) (p q : ParserValue S) (new : S) (bytes : List ℕ) (n k : ℕ)
-    → n ≡ 0 → Ran does p (take n bytes) q → CallsByLast p.callbacks p.scanner bytes n q.callbacks
-    → CallsByLast q.callbacks q.scanner bytes k new → CallsByLast p.callbacks p.scanner bytes k new
-later_by_last does p q new bytes n k none ran first last =
+    → n ≡ 0 → Ran does p (take n bytes) q → CallsByLast p.callbacks p.screen p.scanner bytes n q.callbacks
+    → CallsByLast q.callbacks q.screen q.scanner bytes k new → CallsByLast p.callbacks p.screen p.scanner bytes k new
+later_by_last {S} does p q new bytes n k none ran first last =
     let start : Ran does p [] q = subst (λ (m : ℕ). Ran does p (take m bytes) q) none ran in
     let same : q.callbacks ≡ p.callbacks = elim first [
-      | inl e ↦ e
+      | inl e ↦ e.0
       | inr some ↦ absurd (omega (arith, none, some.0))
     ] in
     elim last [
-      | inl e ↦ inl (e ∙ same)
+      | inl e ↦
+          inl (
+            e.0 ∙ same,
+            λ s stands.
+                let here = start s stands in
+                let rest = e.1 s here.0 in
+                let shown : p.screen ≡ q.screen = ap (λ (t : act.State S). t.screen) here.1 in (
+                  rest.0,
+                  subst (λ (x : ScreenValue). FoldsTo (Performs invokes_none) (state tt x) (run s (take k bytes)).events (state tt rest.0))
+                      (sym shown) rest.1,
+                ),
+          )
       | inr some ↦ inr (some.0, λ s stands. some.1 s (start s stands).0)
     ]
 

@@ -23,15 +23,15 @@ pub record ParserProcesses {S : Type 0} (does : CallRelation S)
   pub harmless : old.is_failed ≡ false → IsHarmless does old bytes → answer ≡ Ok tt
   pub quiet : Processes old (processing bytes answer) new
 
--- The effect of `process_unit`. On success, the first `count` bytes are read; if a callback was invoked, only the last
--- of these bytes produces events. If an allocation fails, the byte at index `count` required it; the bytes before that
+-- The effect of `process_unit`. On success, the first `count` bytes are read; they invoke no callbacks, or only the last
+-- of them produces events. If an allocation fails, the byte at index `count` required it; the bytes before that
 -- byte produce no events, and the parser reads nothing more.
 pub record ParserReadsUnit {S : Type 0} (does : CallRelation S) (old : ParserValue S) (bytes : List ℕ) (count : ℕ)
     (answer : Result (Unit {0}) Error) (new : ParserValue S) : Type 0 where
   pub progress : IfOk answer (λ _. 0 < count)
   pub inside : IfOk answer (λ _. count ≤ length bytes)
   pub ran : IfOk answer (λ _. Ran does old (take count bytes) new)
-  pub last : IfOk answer (λ _. CallsByLast old.callbacks old.scanner bytes count new.callbacks)
+  pub last : IfOk answer (λ _. CallsByLast old.callbacks old.screen old.scanner bytes count new.callbacks)
   pub memory : answer ≡ Err OutOfMemory → StoppedAt does old bytes count new
   pub failed : old.is_failed ≡ true → (answer ≡ Err Failed) × (new ≡ old) × (count ≡ 0)
   pub only : answer ≡ Err Failed → old.is_failed ≡ true

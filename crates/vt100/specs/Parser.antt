@@ -66,11 +66,25 @@ StoppedWithin does old bytes new =
     (state : State) → StandsFor old.scanner state →
     StopsIn (Performs does) (Breaks does) (stage old) (scan.run state bytes).events (stage new)
 
--- The callbacks are unchanged (`new` equals `old`), or only the last of the first `count` bytes can produce events,
--- whichever state the scanner `held` is in.
-abbrev pub CallsByLast : {S : Type 0} → S → ScannerValue → List ℕ → ℕ → S → Type 0
-CallsByLast old held bytes count new =
-    (new ≡ old) ⊎ ((0 < count) × HasNoEvent held (take (count - 1) bytes))
+-- The call relation of callbacks that cannot be invoked.
+abbrev pub invokes_none : CallValue → Unit {0} → ScreenValue → Unit {0} → ScreenValue → Type 0
+invokes_none call old before new after = ⊥
+
+-- Parsing the bytes on the given screen invokes no callbacks, whichever state the scanner `held` is in: all steps can be
+-- taken with callbacks that cannot be invoked.
+abbrev pub IsSilent : ScreenValue → ScannerValue → List ℕ → Type 0
+IsSilent before held bytes =
+    (state : State) → StandsFor held state
+    → (after : ScreenValue)
+    × FoldsTo (Performs invokes_none) (screen.state tt before) (scan.run state bytes).events (screen.state tt after)
+
+-- Among the first `count` bytes, only the last can invoke callbacks. Either these bytes invoke none, and the callbacks
+-- are unchanged (`new` equals `old`); or only the last of them can produce events, whichever state the scanner `held` is
+-- in. The screen `before` is that before the bytes.
+abbrev pub CallsByLast : {S : Type 0} → S → ScreenValue → ScannerValue → List ℕ → ℕ → S → Type 0
+CallsByLast old before held bytes count new =
+    ((new ≡ old) × IsSilent before held (take count bytes))
+    ⊎ ((0 < count) × HasNoEvent held (take (count - 1) bytes))
 
 -- The call relation of callbacks that do nothing and leave the screen unchanged.
 abbrev pub does_nothing : CallValue → Unit {0} → ScreenValue → Unit {0} → ScreenValue → Type 0

@@ -1,17 +1,21 @@
 -- Bytes that are parsed without callbacks or allocations, however they are split into calls to `process`.
 use Rattle.std.specs.Prelude.{◌≡◌, ℕ, false, List, [], ◌∷◌, ◌++◌, Ok, Some}
-use Rattle.std.specs.List.{AllByRecursion}
+use Rattle.std.specs.List.{AllByRecursion, FoldsTo}
 use Rattle.std.specs.declared.result.Result.{Result}
 use Rattle.vt_cells.specs.declared.error.Error.{Error}
 use Rattle.vt_scan.specs.Automaton.{State, start}
 use Rattle.vt_scan.specs.Scanner.{StandsFor}
+use Rattle.vt_redraw.specs.Picture.{SamePictureSize}
+use Rattle.vt_redraw.specs.Steady.{IsSteady}
 use Rattle.vt_screen.specs.Again.{IsReport, KeepsAside}
 use Rattle.vt_screen.specs.Calls.{CallValue}
 use Rattle.vt_screen.specs.CallsOfRun.{TakesCalls}
 use Rattle.vt_screen.specs.Reading.{Terminal, terminal_after, terminal}
 use Rattle.vt_screen.specs.Run.{CallRelation}
 use Rattle.vt_screen.specs.Screen.{IsScreen, ScreenValue, above_page}
-use Rattle.vt_screen.specs.Shown.{IsPlain, KeepsRest, display}
+use Rattle.vt_screen.specs.Shown.{IsPlain, KeepsRest, RedrawsFrom, display}
+use Rattle.vt_screen.specs.States.{KeepsAsideButModes}
+use Rattle.vt_screen.specs.declared.modes.Modes.{Modes}
 use Rattle.vt100.specs.Parser.{ParserValue}
 
 -- A call to `process`: its bytes and its result.
@@ -75,3 +79,42 @@ pub record IsPlainAgain {S : Type 0} (does : CallRelation S) (old new : ParserVa
   pub calls : List CallValue
   pub reports : AllByRecursion IsReport calls
   pub called : TakesCalls does old.callbacks calls new.callbacks
+
+-- The parser `new` is plain, has the given input modes, and has the inactive page and size of `old`. No callback was
+-- invoked except `on_scroll`, for rows that scrolled off the top.
+pub record IsPlainWithModes {S : Type 0} (does : CallRelation S) (modes : Modes) (old new : ParserValue S) : Type 0 where
+  pub plain : IsPlainParser new
+  pub aside : KeepsAsideButModes old.screen new.screen
+  pub has_modes : new.screen.modes ≡ modes
+  pub calls : List CallValue
+  pub reports : AllByRecursion IsReport calls
+  pub called : TakesCalls does old.callbacks calls new.callbacks
+
+-- ---- diffs of any kind
+
+-- A diff that a parser reads: the screen to be displayed, and the calls to `process` that read the diff.
+pub record ReadDiff : Type 0 where
+  pub screen : ScreenValue
+  pub calls : List Processing
+
+-- The parser reads a diff in the given calls. Afterward, its screen is valid, as the screen of every parser is.
+pub record ReadsDiff {S : Type 0} (old : ParserValue S) (diff : ReadDiff) (new : ParserValue S) : Type 0 where
+  pub folds : FoldsTo Processes old diff.calls new
+  pub sound : IsScreen new.screen
+
+-- Each output is a diff of any kind from the previous screen to a steady screen of the same size, as the clause `redraws`
+-- of each function that returns a diff states.
+abbrev pub AreDiffs : (was : ScreenValue) → List ReadDiff → Type 0
+AreDiffs was [] = Unit {0}
+AreDiffs was (diff ∷ diffs) =
+    IsSteady (display diff.screen) × SamePictureSize (display diff.screen) (display was)
+    × RedrawsFrom was diff.screen (bytes_in diff.calls) × AreDiffs diff.screen diffs
+
+-- The screen to be displayed last.
+abbrev pub last_of : (was : ScreenValue) → List ReadDiff → ScreenValue
+last_of was [] = was
+last_of was (diff ∷ diffs) = last_of diff.screen diffs
+
+-- All calls that read the diff return `Ok`.
+abbrev pub AreFine : ReadDiff → Type 0
+AreFine diff = AllByRecursion IsFine diff.calls

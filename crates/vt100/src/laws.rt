@@ -4,7 +4,8 @@
 ghost use Rattle.std.specs.List.{AllByRecursion, FoldsTo};
 ghost use Rattle.std.specs.Prelude.{◌≡◌, ◌<◌, ℕ, Bool, false, true, List, [], ◌∷◌, ◌++◌, Some, length, map};
 ghost use Rattle.vt100.specs.Parser.{IsHarmless, ParserValue, Ran, Stopped, parser_value, pieces_joined, does_nothing};
-ghost use Rattle.vt100.specs.Pieces.{HasRead, IsFine, IsPlainAgain, IsPlainParser, IsUnscrolledParser};
+ghost use Rattle.vt100.specs.Pieces.{AreDiffs, AreFine, HasRead, IsFine, IsPlainAgain, IsPlainParser, IsPlainWithModes};
+ghost use Rattle.vt100.specs.Pieces.{IsUnscrolledParser, ReadDiff, ReadsDiff, last_of};
 ghost use Rattle.vt100.specs.Pieces.{Processes, Processing, ShowsLast, bytes_in};
 ghost use Rattle.vt100.specs.Streams.{IsFreshParser, IsRecorder, MakesCall, ParserCall, Process, bytes_of_calls};
 ghost use Rattle.vt100.specs.Streams.{screen_by, calls_by, whole_text};
@@ -15,12 +16,16 @@ ghost use Rattle.vt_scan.specs.Scanner.{StandsFor};
 ghost use Rattle.vt_screen.specs.Again.{KeepsPlain, MakesPlain};
 ghost use Rattle.vt_screen.specs.Capture.{all_rows, basic_texts};
 ghost use Rattle.vt_screen.specs.Chain.{CanShowOn, chain_text, last_screen};
+ghost use Rattle.vt_screen.specs.Diffs.{KeepsScreensPlain};
 ghost use Rattle.vt_screen.specs.Pages.{screen_after_resize};
 ghost use Rattle.vt_screen.specs.Reading.{Terminal, terminal_after, terminal};
 ghost use Rattle.vt_screen.specs.Screen.{IsScreen, ScreenValue, fresh_screen};
+ghost use Rattle.vt_screen.specs.Shown.{display};
+ghost use Rattle.vt_screen.specs.States.{AreModes, HasDefaultMouseAndStyle, SetsModesPlainly};
 ghost use Rattle.vt_screen.specs.Streamed.{AreSameTrimmed, HasNoRis, HasWideFlags, without_scrollback, rows_of_calls, sent_off_in};
 ghost use Rattle.vt_screen.specs.Streamed.{streamed_text};
 ghost use Rattle.vt_screen.specs.CallsOfRun.{CalledOnSomeScreen, LeavesScreen, calls_in};
+ghost use Rattle.vt_screen.specs.declared.modes.Modes.{Modes};
 
 use vt_screen::Callbacks;
 
@@ -154,6 +159,23 @@ pub fn chain<CB: Callbacks>()
         FoldsTo Processes p calls q → AllByRecursion IsFine calls × ShowsLast p (last_screen self nexts) q }
 {}
 
+/// States that a caller's own chain of diffs works: a plain terminal that displays a screen and
+/// reads diffs of any kind, each from the previous screen to the next, displays the last screen.
+/// The diffs may come from `contents_diff`, `contents_diff_scrolling` and `contents_diff_with`, in
+/// any order (see their clauses `redraws`), and each may be split into any chunks. The screens must
+/// be steady and have the same size.
+///
+/// Each call to `process` returns `Ok`. Callbacks, scrollback, the inactive page and the modes are
+/// unchanged.
+///
+/// A terminal displays the first screen after it has read a redraw (see `chain` with no diffs). The
+/// premises about screens hold for every parser by the clause `whole` of `Screen::size`.
+pub fn diffs<CB: Callbacks>()
+    ensures shows { (was : ScreenValue) → (diffs : List ReadDiff) → (p q : ParserValue CB) → IsScreen p.screen →
+        IsPlainParser p → display p.screen ≡ display was → AreDiffs was diffs → FoldsTo ReadsDiff p diffs q →
+        AllByRecursion AreFine diffs × ShowsLast p (last_of was diffs) q }
+{}
+
 /// States that a plain terminal is plain again after it has read a redraw of
 /// any screen or a diff from one screen to another, even if the screen to be
 /// displayed is not steady. The clauses are:
@@ -161,20 +183,35 @@ pub fn chain<CB: Callbacks>()
 /// - `kept` applies to output that keeps every plain terminal plain. The output of
 ///   `contents_formatted`, `contents_diff`, `contents_diff_scrolling` and `cursor_state_formatted`
 ///   does so (see their clauses `again`).
+/// - `screens` is the same for output that keeps every plain terminal plain whose screen is valid,
+///   as the screen of every parser is (see the clause `whole` of `Screen::size`). The output of
+///   `contents_diff_with` does so (see its clause `again`).
 /// - `made` applies to output that makes every terminal without displayed scrollback plain. The
 ///   output of `contents_formatted_reset` does so (see its clause `again`).
+/// - `state` and `state_diff` apply to output that keeps every plain terminal plain that has the
+///   default mouse modes and cursor style or all modes of a given screen, and that sets its modes.
+///   The output of `state_formatted` and of `state_diff` does so (see their clauses `again`).
 ///
 /// The output may be split into any chunks. Whatever the callbacks are, only
-/// `on_scroll` is invoked, for rows that scroll off the top. The inactive page,
-/// the input modes, the cursor style and the size are unchanged. Therefore the
-/// next redraw of a steady screen displays that screen, whatever was drawn
-/// before.
+/// `on_scroll` is invoked, for rows that scroll off the top. The inactive page
+/// and the size are unchanged. So are the input modes and the cursor style,
+/// except in the clauses `state` and `state_diff`. Therefore the next redraw of
+/// a steady screen displays that screen, whatever was drawn before.
 ///
 /// The premise that the parser has not failed holds after calls to `process`
 /// that returned `Ok`.
 pub fn again<CB: Callbacks>()
     ensures kept { (p q : ParserValue CB) (chunks : List (List ℕ)) → KeepsPlain (pieces_joined chunks) →
         IsPlainParser p → FoldsTo (Ran CB.does) p chunks q → q.is_failed ≡ false → IsPlainAgain CB.does p q }
+    ensures screens { (p q : ParserValue CB) (chunks : List (List ℕ)) → KeepsScreensPlain (pieces_joined chunks) →
+        IsScreen p.screen → IsPlainParser p → FoldsTo (Ran CB.does) p chunks q → q.is_failed ≡ false →
+        IsPlainAgain CB.does p q }
+    ensures state { (modes : Modes) (p q : ParserValue CB) (chunks : List (List ℕ)) →
+        SetsModesPlainly HasDefaultMouseAndStyle modes (pieces_joined chunks) → HasDefaultMouseAndStyle p.screen.modes →
+        IsPlainParser p → FoldsTo (Ran CB.does) p chunks q → q.is_failed ≡ false → IsPlainWithModes CB.does modes p q }
+    ensures state_diff { (was modes : Modes) (p q : ParserValue CB) (chunks : List (List ℕ)) →
+        SetsModesPlainly (AreModes was) modes (pieces_joined chunks) → p.screen.modes ≡ was → IsPlainParser p →
+        FoldsTo (Ran CB.does) p chunks q → q.is_failed ≡ false → IsPlainWithModes CB.does modes p q }
     ensures made { (p q : ParserValue CB) (chunks : List (List ℕ)) → MakesPlain (pieces_joined chunks) →
         IsUnscrolledParser p → FoldsTo (Ran CB.does) p chunks q → q.is_failed ≡ false → IsPlainAgain CB.does p q }
 {}

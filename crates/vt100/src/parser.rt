@@ -179,8 +179,8 @@ impl<CB: Callbacks> Parser<CB> {
         }
     }
 
-    /// Parses the first unit of `bytes`, in which only the last byte can invoke callbacks, and
-    /// returns the unit's length in bytes. `bytes` must not be empty.
+    /// Parses the first unit of `bytes`, in which only the last byte can invoke callbacks (clause
+    /// `call`: `last`), and returns the unit's length in bytes. `bytes` must not be empty.
     ///
     /// A unit is a run of text that fits on the cursor's row, one character, a control function, a
     /// complete or partial sequence, or bytes of a control string (such as an operating system

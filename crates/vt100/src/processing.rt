@@ -1,9 +1,9 @@
 //! The loop that parses bytes and applies the resulting events.
 
-ghost use Rattle.std.specs.Prelude.{◌-◌, ◌<◌, ◌≤◌, IfOk, IsErr, length, map, option_to_list, slice_index_or};
+ghost use Rattle.std.specs.Prelude.{◌-◌, ◌<◌, ◌≤◌, IfOk, IsErr, length, map, option_to_list, slice_index_or, take};
 ghost use Rattle.vt_cells.specs.Refusals.{OnlyOutOfMemory};
 ghost use Rattle.vt100.specs.Internals.{PerformsOrBreaks, ReadsOrStops};
-ghost use Rattle.vt100.specs.Parser.{CallsByLast, Ran, Stopped, parser_value};
+ghost use Rattle.vt100.specs.Parser.{CallsByLast, IsSilent, Ran, Stopped, parser_value};
 ghost use Rattle.vt_scan.specs.Scanner.{ReadsItself, event_of, events_in};
 ghost use Rattle.vt_screen.specs.Run.{state};
 
@@ -65,7 +65,7 @@ pub fn process_some<CB: Callbacks>(
 ) -> Result<usize, usize>
     requires { 0 < length bytes.now }
     ensures progress { IfOk result (λ count. 0 < count) }
-    ensures last { IfOk result (λ count. CallsByLast callbacks.old scanner.old bytes.now count callbacks.new) }
+    ensures last { IfOk result (λ count. CallsByLast callbacks.old screen.old scanner.old bytes.now count callbacks.new) }
     ensures read { ReadsOrStops CB.does (parser_value scanner.old screen.old callbacks.old) bytes.now
         (parser_value scanner.new screen.new callbacks.new) result }
 {
@@ -103,7 +103,7 @@ fn process_sequence<CB: Callbacks>(
     callbacks: &mut CB,
     bytes: &[u8],
 ) -> Result<usize, usize>
-    ensures last { IfOk result (λ count. CallsByLast callbacks.old scanner.old bytes.now count callbacks.new) }
+    ensures last { IfOk result (λ count. CallsByLast callbacks.old screen.old scanner.old bytes.now count callbacks.new) }
     ensures read { ReadsOrStops CB.does (parser_value scanner.old screen.old callbacks.old) bytes.now
         (parser_value scanner.new screen.new callbacks.new) result }
 {
@@ -133,7 +133,7 @@ fn end_sequence<CB: Callbacks>(
     bytes: &[u8],
 ) -> Result<usize, usize>
     requires { 0 < length bytes.now }
-    ensures last { IfOk result (λ count. CallsByLast callbacks.old scanner.old bytes.now count callbacks.new) }
+    ensures last { IfOk result (λ count. CallsByLast callbacks.old screen.old scanner.old bytes.now count callbacks.new) }
     ensures read { ReadsOrStops CB.does (parser_value scanner.old screen.old callbacks.old) bytes.now
         (parser_value scanner.new screen.new callbacks.new) result }
 {
@@ -171,7 +171,7 @@ fn process_one<CB: Callbacks>(
 ) -> Result<usize, usize>
     requires { 0 < length bytes.now }
     ensures progress { IfOk result (λ count. 0 < count) }
-    ensures last { IfOk result (λ count. CallsByLast callbacks.old scanner.old bytes.now count callbacks.new) }
+    ensures last { IfOk result (λ count. CallsByLast callbacks.old screen.old scanner.old bytes.now count callbacks.new) }
     ensures read { ReadsOrStops CB.does (parser_value scanner.old screen.old callbacks.old) bytes.now
         (parser_value scanner.new screen.new callbacks.new) result }
 {
@@ -201,7 +201,7 @@ fn process_rest<CB: Callbacks>(
 ) -> Result<usize, usize>
     requires { 0 < length bytes.now }
     ensures progress { IfOk result (λ count. 0 < count) }
-    ensures last { IfOk result (λ count. CallsByLast callbacks.old scanner.old bytes.now count callbacks.new) }
+    ensures last { IfOk result (λ count. CallsByLast callbacks.old screen.old scanner.old bytes.now count callbacks.new) }
     ensures read { ReadsOrStops CB.does (parser_value scanner.old screen.old callbacks.old) bytes.now
         (parser_value scanner.new screen.new callbacks.new) result }
 {
@@ -246,7 +246,7 @@ fn print_some<CB: Callbacks>(
     requires nonempty { 0 < length bytes.now }
     requires itself { ReadsItself scanner.now (slice_index_or bytes.now 0 0) }
     ensures progress { IfOk result (λ count. 0 < count) }
-    ensures last { IfOk result (λ count. CallsByLast callbacks.old scanner.now bytes.now count callbacks.new) }
+    ensures last { IfOk result (λ count. CallsByLast callbacks.old screen.old scanner.now bytes.now count callbacks.new) }
     ensures read { ReadsOrStops CB.does (parser_value scanner.now screen.old callbacks.old) bytes.now
         (parser_value scanner.now screen.new callbacks.new) result }
 {
@@ -278,7 +278,7 @@ fn process_high<CB: Callbacks>(
 ) -> Result<usize, usize>
     requires { 0 < length bytes.now }
     ensures progress { IfOk result (λ count. 0 < count) }
-    ensures last { IfOk result (λ count. CallsByLast callbacks.old scanner.old bytes.now count callbacks.new) }
+    ensures last { IfOk result (λ count. CallsByLast callbacks.old screen.old scanner.old bytes.now count callbacks.new) }
     ensures read { ReadsOrStops CB.does (parser_value scanner.old screen.old callbacks.old) bytes.now
         (parser_value scanner.new screen.new callbacks.new) result }
 {
@@ -300,8 +300,9 @@ fn print_run<CB: Callbacks>(
     bytes: &[u8],
 ) -> Result<usize, usize>
     requires { 0 < length bytes.now }
-    ensures { ReadsOrStops CB.does (parser_value scanner.now screen.old callbacks.now) bytes.now
+    ensures read { ReadsOrStops CB.does (parser_value scanner.now screen.old callbacks.now) bytes.now
         (parser_value scanner.now screen.new callbacks.now) result }
+    ensures silent { IfOk result (λ count. IsSilent screen.old scanner.now (take count bytes.now)) }
 {
     // The most common combining characters begin with CC or CD. They end a run at once, so trying
     // to print a run would cost more than it saves.
@@ -327,8 +328,9 @@ fn print_wide_run<CB: Callbacks>(
     callbacks: &CB,
     bytes: &[u8],
 ) -> Result<usize, usize>
-    ensures { ReadsOrStops CB.does (parser_value scanner.now screen.old callbacks.now) bytes.now
+    ensures read { ReadsOrStops CB.does (parser_value scanner.now screen.old callbacks.now) bytes.now
         (parser_value scanner.now screen.new callbacks.now) result }
+    ensures silent { IfOk result (λ count. IsSilent screen.old scanner.now (take count bytes.now)) }
 {
     let mut text = ['\0'; RUN];
     print_wide_some(scanner, screen, callbacks, bytes, &mut text)
@@ -346,8 +348,9 @@ fn print_wide_some<CB: Callbacks>(
     bytes: &[u8],
     text: &mut [char],
 ) -> Result<usize, usize>
-    ensures { ReadsOrStops CB.does (parser_value scanner.now screen.old callbacks.now) bytes.now
+    ensures read { ReadsOrStops CB.does (parser_value scanner.now screen.old callbacks.now) bytes.now
         (parser_value scanner.now screen.new callbacks.now) result }
+    ensures silent { IfOk result (λ count. IsSilent screen.old scanner.now (take count bytes.now)) }
 {
     let most = bytes.len().min(3 * usize::from(printing::room(screen) / 2));
     let count = scanner.wide_text(&bytes[..most], text);
@@ -370,8 +373,9 @@ fn print_narrow_run<CB: Callbacks>(
     callbacks: &CB,
     bytes: &[u8],
 ) -> Result<usize, usize>
-    ensures { ReadsOrStops CB.does (parser_value scanner.now screen.old callbacks.now) bytes.now
+    ensures read { ReadsOrStops CB.does (parser_value scanner.now screen.old callbacks.now) bytes.now
         (parser_value scanner.now screen.new callbacks.now) result }
+    ensures silent { IfOk result (λ count. IsSilent screen.old scanner.now (take count bytes.now)) }
 {
     let mut text = ['\0'; RUN];
     print_narrow_some(scanner, screen, callbacks, bytes, &mut text)
@@ -389,8 +393,9 @@ fn print_narrow_some<CB: Callbacks>(
     bytes: &[u8],
     text: &mut [char],
 ) -> Result<usize, usize>
-    ensures { ReadsOrStops CB.does (parser_value scanner.now screen.old callbacks.now) bytes.now
+    ensures read { ReadsOrStops CB.does (parser_value scanner.now screen.old callbacks.now) bytes.now
         (parser_value scanner.now screen.new callbacks.now) result }
+    ensures silent { IfOk result (λ count. IsSilent screen.old scanner.now (take count bytes.now)) }
 {
     let most = text.len().min(usize::from(printing::room(screen)));
     print_narrow_fitting(scanner, screen, callbacks, bytes, &mut text[..most])
@@ -409,8 +414,9 @@ fn print_narrow_fitting<CB: Callbacks>(
     text: &mut [char],
 ) -> Result<usize, usize>
     requires room { length text.old ≤ screen.old.page.width - screen.old.page.column }
-    ensures { ReadsOrStops CB.does (parser_value scanner.now screen.old callbacks.now) bytes.now
+    ensures read { ReadsOrStops CB.does (parser_value scanner.now screen.old callbacks.now) bytes.now
         (parser_value scanner.now screen.new callbacks.now) result }
+    ensures silent { IfOk result (λ count. IsSilent screen.old scanner.now (take count bytes.now)) }
 {
     let (count, len) = scanner.narrow_text(bytes, text);
     if count == 0 {

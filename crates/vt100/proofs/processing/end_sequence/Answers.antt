@@ -79,4 +79,4 @@ pub returns-then-take_command_byte-clause-last : goal.returns-then-take_command_
 returns-then-take_command_byte-clause-last g c = inr (omega arith, λ s stands. refl)
 
 pub returns-clause-last : goal.returns-clause-last
-returns-clause-last g c = inl refl
+returns-clause-last g c = inl (refl, λ s stands. (c.args.screen.now, refl))

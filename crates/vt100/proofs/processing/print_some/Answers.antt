@@ -4,7 +4,8 @@ use Rattle.std.proofs.lemmas.List.{length-take, take-take, take_more}
 use Rattle.vt_scan.specs.Scanner.{ReadsItself}
 use Rattle.vt_scan.proofs.Feeding.{text_feeds}
 use Rattle.vt_screen.specs.Screen.{ScreenValue}
-use Rattle.vt100.specs.Parser.{Ran, parser_value, stage}
+use Rattle.vt_screen.specs.Texts.{screen_after_text}
+use Rattle.vt100.specs.Parser.{Ran, invokes_none, parser_value, stage}
 use Rattle.vt100.proofs.Plain.{printable_of, text_ran}
 use Rattle.vt100.proofs.Refusing.{stopped_at_first}
 use Rattle.vt100.proofs.Running.{byte_ran, one_character, text_answer, some_read, stopped_in, stopped_within}
@@ -84,4 +85,19 @@ pub returns-in-Ok-clause-last : goal.returns-in-Ok-clause-last
 returns-in-Ok-clause-last g c = inr (omega arith, λ s stands. refl)
 
 pub returns-clause-last : goal.returns-clause-last
-returns-clause-last g c = inl refl
+returns-clause-last g c =
+    let held = c.args.scanner.now in
+    let screen = c.args.screen.now in
+    let text = take c.text_len-count.result c.args.bytes.now in
+    let cut = length-take c.min-fitting.result c.args.bytes.now in
+    let size = length-take c.text_len-count.result c.args.bytes.now in
+    let room : screen.page.column + length text ≤ screen.page.width =
+    omega (arith, cut, size, c.text_len-count.ensures.inside, c.min-fitting.ensures, c.from.ensures, c.room.ensures) in
+    inl (
+      refl,
+      λ s stands. (
+        screen_after_text text screen,
+        (text_ran invokes_none text held tt screen (plain_text g (goal.at.returns-clause-last g c).After-text_len-count) room
+            s stands).1,
+      ),
+    )

@@ -1,7 +1,7 @@
-use Rattle.std.proofs.Common.{◌≡◌, ℕ, [], inr, refl, subst, take, arith}
+use Rattle.std.proofs.Common.{◌≡◌, ℕ, [], inl, inr, refl, subst, take, arith}
 use Rattle.vt100.specs.Parser.{Ran, parser_value}
 use Rattle.vt100.proofs.Refusing.{stopped_at_after, stopped_at_first}
-use Rattle.vt100.proofs.Running.{known_ran, stopped_in, stopped_within}
+use Rattle.vt100.proofs.Running.{known_ran, silent_none, stopped_in, stopped_within}
 use Rattle.vt100.proofs.processing.process_rest.Goals as goal
 
 pub returns-in-Err-clause-read : goal.returns-in-Err-clause-read
@@ -23,3 +23,19 @@ returns-in-Err-clause-read g c =
     (inr (stopped_within does before led now c.feed.new.self bytes 0 events c.requires ran fed stops))
     (stopped_at_after does before led now bytes 0 ran
     (stopped_at_first does led now c.feed.new.self bytes events c.requires fed stops))
+
+pub returns-then-skipped-gt0-clause-last : goal.returns-then-skipped-gt0-clause-last
+returns-then-skipped-gt0-clause-last g c =
+    inl (
+      refl,
+      silent_none c.args.screen.now c.args.scanner.now c.args.scanner.now (take c.skipped_len-skipped.result c.args.bytes.now)
+          c.skipped_len-skipped.ensures.fed,
+    )
+
+pub returns-then-collected-gt0-clause-last : goal.returns-then-collected-gt0-clause-last
+returns-then-collected-gt0-clause-last g c =
+    inl (
+      refl,
+      silent_none c.args.screen.now c.args.scanner.now c.take_command_text.new.self (take c.in-Ok.collected c.args.bytes.now)
+          c.in-Ok.ensures.fed,
+    )

@@ -1,9 +1,9 @@
 -- The bytes that lead into a sequence, and the byte after them if it ends the sequence.
-use Rattle.std.proofs.Common.{[], ◌≤◌, ◌+◌, List, ℕ, drop, length, refl, subst, take, rules}
+use Rattle.std.proofs.Common.{[], ◌≤◌, ◌+◌, List, ℕ, drop, inl, length, refl, subst, take, rules}
 use Rattle.vt_scan.proofs.Lists.{all_left}
 use Rattle.vt100.specs.Parser.{CallsByLast, Ran, Stopped, StoppedAt, parser_value}
 use Rattle.vt100.proofs.Refusing.{stopped_at_then}
-use Rattle.vt100.proofs.Running.{known_ran, led_by_last, ran_on, some_read, stopped_in, stopped_then}
+use Rattle.vt100.proofs.Running.{known_ran, led_by_last, ran_on, silent_none, some_read, stopped_in, stopped_then}
 use Rattle.vt100.proofs.processing.process_sequence.Goals as goal
 
 pub returns-in-Err-clause-read : goal.returns-in-Err-clause-read
@@ -45,7 +45,16 @@ pub returns-in-Ok-clause-last : goal.returns-in-Ok-clause-last
 returns-in-Ok-clause-last g c =
     let bytes = c.args.bytes.now in
     let leading = c.take_introducer-leading.result in
-    led_by_last c.args.callbacks.now c.end_sequence.new.callbacks c.args.scanner.now c.take_introducer-leading.new.self
+    led_by_last c.args.callbacks.now c.end_sequence.new.callbacks c.args.screen.now c.args.scanner.now
+    c.take_introducer-leading.new.self
     bytes leading c.in-Ok.last c.take_introducer-leading.ensures.fed
-    (subst (λ (left : List ℕ). CallsByLast c.args.callbacks.now c.take_introducer-leading.new.self left c.in-Ok.last
+    (subst (λ (left : List ℕ). CallsByLast c.args.callbacks.now c.args.screen.now c.take_introducer-leading.new.self left c.in-Ok.last
     c.end_sequence.new.callbacks) (all_left bytes leading) c.in-Ok.ensures.last)
+
+pub returns-then-leading-bytes-clause-last : goal.returns-then-leading-bytes-clause-last
+returns-then-leading-bytes-clause-last g c =
+    inl (
+      refl,
+      silent_none c.args.screen.now c.args.scanner.now c.take_introducer-leading.new.self
+          (take c.take_introducer-leading.result c.args.bytes.now) c.take_introducer-leading.ensures.fed,
+    )

@@ -56,8 +56,8 @@ returns-clause-last g c =
     let before = parser_value c.args.scanner.now c.args.screen.now c.args.callbacks.now in
     let led = parser_value c.process_sequence.new.scanner c.process_sequence.new.screen c.process_sequence.new.callbacks in
     let zero : c.in_ok-count-2.count ≡ 0 = omega (arith, c.if-count-gt0.false) in
-    map_some (λ k. CallsByLast led.callbacks led.scanner c.args.bytes.now k c.process_rest.new.callbacks)
-    (λ k. CallsByLast before.callbacks before.scanner c.args.bytes.now k c.process_rest.new.callbacks)
+    map_some (λ k. CallsByLast led.callbacks led.screen led.scanner c.args.bytes.now k c.process_rest.new.callbacks)
+    (λ k. CallsByLast before.callbacks before.screen before.scanner c.args.bytes.now k c.process_rest.new.callbacks)
     c.process_rest.result
     (λ k. later_by_last g.CB.Callbacks.does before led c.process_rest.new.callbacks c.args.bytes.now
     c.in_ok-count-2.count k zero c.in_ok-count-2.ensures.read.ran c.in_ok-count-2.ensures.last)
