@@ -266,9 +266,10 @@ vt100_status vt100_save(vt100_handle *handle, vt100_handle *out);
 
 /*
  * Stores in `out` a saved screen that displays the same content as a parser or a saved screen and
- * has the same size. The copy has neither the scrollback nor the inactive page, so it takes less
- * memory than one made by vt100_save. It can be the `prev` of a later diff. While scrollback is
- * displayed, the copy is complete, like one made by vt100_save.
+ * has the same size and input modes. The copy has neither the scrollback nor the inactive page, so
+ * it takes less memory than one made by vt100_save. It can be the `prev` of a later diff, including
+ * vt100_state_diff. While scrollback is displayed, the copy is complete, like one made by
+ * vt100_save.
  * VT100_NO_OBJECT, VT100_WRONG_KIND. VT100_IN_USE: `out` is not empty, or is the same handle.
  * VT100_OUT_OF_MEMORY.
  */
@@ -301,9 +302,11 @@ vt100_status vt100_process(vt100_handle *handle, const uint8_t *bytes, size_t le
 
 /*
  * Parses bytes up to and including the first byte that logs or loses an event, and stores the
- * number of bytes read in `*used`. Call this function until all bytes are read. Rows that are
- * logged without text do not stop parsing until the rows that this call has logged take 64 KiB or
- * the log reaches its limit. Only for a parser.
+ * number of bytes read in `*used`. Call this function until all bytes are read. A logged row does
+ * not stop parsing if its record has no text, which is the case for every row if
+ * VT100_ROWS_WITHOUT_TEXT is requested, and otherwise for each blank row. Such rows stop parsing
+ * when the rows that this call has logged take 64 KiB or the log reaches its limit. Only for a
+ * parser.
  * Statuses: as for vt100_process, except that a parser returns VT100_OK if `len` is 0. If the
  * status is VT100_OUT_OF_MEMORY, `*used` is the number of bytes before the one whose allocation
  * failed; for the other error statuses, it is 0.

@@ -328,8 +328,9 @@ impl Handle {
         out
     }
 
-    /// Returns a screen of the same size that displays the same content, without scrollback or the
-    /// inactive page.
+    /// Returns a screen of the same size and with the same modes that displays the same content,
+    /// without scrollback or the inactive page. While scrollback is displayed, the result is a copy
+    /// of the whole screen.
     pub fn shown_copy(&mut self) -> Self {
         let mut out = Self::default();
         check(unsafe { vt100_shown_copy(self, &mut out) });
