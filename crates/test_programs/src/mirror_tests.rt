@@ -4,6 +4,7 @@ use crate::numbers::size;
 use std::alloc::Global;
 use std::test::Fail;
 use vt_mirror::{Mirror, Update};
+use vt100::{DiffOptions, Repeat};
 
 /// A call on a mirror, with its expected result. Calls of `process` and `set_size` have none: they
 /// must succeed.
@@ -45,7 +46,24 @@ enum Call {
     /// Requests a scrolling update for the viewer with the given number; the update must be a full
     /// update with the given size, and with the given text after [`CLEAR`].
     FullScrolling(u64, (u16, u16), &'static str),
+
+    /// Requests an update with [`OPTIONS`] for a number that no viewer has.
+    NobodyWith(u64),
+
+    /// Requests an update with [`OPTIONS`] for the viewer with the given number; the update must be
+    /// the given diff.
+    DiffWith(u64, &'static str),
+
+    /// Requests an update with [`OPTIONS`] for the viewer with the given number; the update must be
+    /// a full update with the given size, and with the given text after [`CLEAR`].
+    FullWith(u64, (u16, u16), &'static str),
 }
+
+/// Rows and columns may move, and printable ASCII characters may be repeated with REP.
+const OPTIONS: DiffOptions = DiffOptions {
+    scroll: true,
+    repeat: Repeat::Ascii,
+};
 
 /// The beginning of the text of a full update.
 const CLEAR: &str = "\x1b[?25h\x1b[m\x1b[H\x1b[J";
@@ -193,6 +211,22 @@ const TOGETHER: [Call; 16] = [
     Call::Diff(2, ""),
 ];
 
+/// Calls with options: REP repeats a character once less than it is displayed, and a row that
+/// scrolled off the top is deleted.
+#[rattlefmt::skip]
+const WITH_OPTIONS: [Call; 10] = [
+    Call::NobodyWith(0),
+    Call::Join(0),
+    Call::FullWith(0, (4, 10), ""),
+    Call::Process("--------"),
+    Call::DiffWith(0, "-\x1b[7b"),
+    Call::DiffWith(0, ""),
+    Call::Process("\r\nalpha\r\n==\r\ngamma"),
+    Call::Diff(0, "\r\nalpha\r\n==\r\ngamma"),
+    Call::Process("\r\n********"),
+    Call::DiffWith(0, "\x1b[H\x1b[M\n\n\n*\x1b[7b"),
+];
+
 /// Creates a mirror with the given number of rows and columns, without scrollback.
 fn mirror(alloc: Global, rows_and_cols: (u16, u16)) -> Result<Mirror, Fail> {
     let (rows, cols) = size(rows_and_cols)?;
@@ -227,6 +261,11 @@ fn answers(mirror: &mut Mirror, call: Call) -> Result<bool, Fail> {
         Call::DiffScrolling(viewer, text) => is_diff(mirror.update_scrolling(viewer)?, text),
         Call::FullScrolling(viewer, size, text) => {
             is_full(mirror.update_scrolling(viewer)?, size, text)
+        }
+        Call::NobodyWith(viewer) => Ok(mirror.update_with(viewer, OPTIONS)?.is_none()),
+        Call::DiffWith(viewer, text) => is_diff(mirror.update_with(viewer, OPTIONS)?, text),
+        Call::FullWith(viewer, size, text) => {
+            is_full(mirror.update_with(viewer, OPTIONS)?, size, text)
         }
     }
 }
@@ -275,4 +314,9 @@ fn tells_whether_a_viewer_is_up_to_date(rt: HostRuntime) -> Result<(), Fail> {
 #[test]
 fn tells_viewers_that_share_texts(rt: HostRuntime) -> Result<(), Fail> {
     expect_all(&mut mirror(rt.alloc(), (4, 10))?, &TOGETHER)
+}
+
+#[test]
+fn repeats_characters_and_moves_rows(rt: HostRuntime) -> Result<(), Fail> {
+    expect_all(&mut mirror(rt.alloc(), (4, 10))?, &WITH_OPTIONS)
 }

@@ -23,6 +23,14 @@ const CALLED: [(&[u8], Function); 12] = [
     (b"\x1b]9;x\x07", UnhandledOsc),
 ];
 
+/// Test cases: input, and after how many of its bytes a callback has been invoked.
+const UNITS: [(&[u8], &[usize]); 4] = [
+    (b"ab\x07cd\x07", &[3, 6]),
+    (b"\xE4\xB8\xAD\xC3\xA4\x07\x1b[?5lx", &[6, 11]),
+    (b"\x1b]2;title\x07x\x01", &[10, 12]),
+    (b"\x1b[31mab\r\n\x1b[8tc", &[13]),
+];
+
 /// Fails if parsing `bytes` does not call the method `function` exactly once, or calls any other
 /// method.
 fn expect_one_call(alloc: Global, bytes: &[u8], function: Function) -> Result<(), Fail> {
@@ -45,6 +53,52 @@ fn expect_one_call(alloc: Global, bytes: &[u8], function: Function) -> Result<()
 fn calls_each_function_itself(rt: HostRuntime) -> Result<(), Fail> {
     for (bytes, function) in &CALLED {
         expect_one_call(rt.alloc(), bytes, *function)?;
+    }
+    Ok(())
+}
+
+/// Returns the number of calls of all methods.
+fn total(counter: &Counter) -> u32 {
+    let mut total = 0_u32;
+    for count in counter.counts() {
+        total = total.saturating_add(u32::from(*count));
+    }
+    total
+}
+
+/// Fails if reading `bytes` unit by unit does not invoke callbacks exactly after the numbers of
+/// bytes in `ends`.
+fn expect_units(alloc: Global, bytes: &[u8], ends: &[usize]) -> Result<(), Fail> {
+    let (rows, cols) = size_of((2, 8))?;
+    let mut parser = Parser::new_with_callbacks(alloc, rows, cols, 0, Counter::default())?;
+    let mut rest = bytes;
+    let mut found = 0_usize;
+    for _ in 0..bytes.len() {
+        if rest.is_empty() {
+            break;
+        }
+        let before = total(parser.callbacks());
+        let (count, answer) = parser.process_unit(rest);
+        answer?;
+        rest = rest.get(count..).ok_or("a unit is longer than the input")?;
+        let read = bytes.len().saturating_sub(rest.len());
+        if total(parser.callbacks()) != before {
+            if ends.get(found) != Some(&read) {
+                return Err(Fail::new(format_args!("{bytes:?}: a callback after {read} bytes")));
+            }
+            found = found.saturating_add(1);
+        }
+    }
+    if !rest.is_empty() || found != ends.len() {
+        return Err(Fail::new(format_args!("{bytes:?}: {found} callbacks, {rest:?} is left")));
+    }
+    Ok(())
+}
+
+#[test]
+fn ends_a_unit_at_the_byte_that_invokes_a_callback(rt: HostRuntime) -> Result<(), Fail> {
+    for (bytes, ends) in &UNITS {
+        expect_units(rt.alloc(), bytes, ends)?;
     }
     Ok(())
 }

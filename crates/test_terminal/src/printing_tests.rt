@@ -5,10 +5,11 @@ use test_aids::seen::expect_at_each_cut;
 use test_aids::steps::Step::Text;
 
 #[rattlefmt::skip]
-const PRINTED: [((u16, u16), &str, &str); 73] = [
+const PRINTED: [((u16, u16), &str, &str); 74] = [
     // A pending wrap.
     ((2, 4), "abcd", "0:abcd @0,4\n"),
     ((2, 4), "abcd\n", "0:abcd @1,4\n"),
+    ((2, 4), "abcd\x1b[2K", "@0,4\n"),
     ((2, 4), "abcdx", "0:abcd/ 1:x @1,1\n"),
     ((2, 2), "abcde", "0:cd/ 1:e @1,1\nscroll 6162 0\n"),
     ((1, 1), "ab", "0:b @0,1\nscroll 61 0\n"),
