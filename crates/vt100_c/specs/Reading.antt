@@ -123,13 +123,13 @@ pub record StopsUnread (mark : Mark) (old : ParserValue Logged) (bytes : List �
 
 -- ---- reading unit by unit
 
--- The effect of reading one unit, as `Parser::process_unit` does. On success, the first `count` bytes are read, and if
--- an event was recorded, only the last of these bytes produces events. On failure, the byte at index `count` is not
+-- The effect of reading one unit, as `Parser::process_unit` does. On success, the first `count` bytes are read; they
+-- invoke no callbacks, or only the last of them produces events. On failure, the byte at index `count` is not
 -- read, and the bytes before it produce no events.
 pub record ReadsUnit (old : ParserValue Logged) (bytes : List ℕ) (count status : ℕ) (new : ParserValue Logged) : Type 0 where
   pub nonempty : status ≡ ok → 0 < count
   pub inside : count ≤ length bytes
-  pub last : status ≡ ok → CallsByLast old.callbacks old.scanner bytes count new.callbacks
+  pub last : status ≡ ok → CallsByLast old.callbacks old.screen old.scanner bytes count new.callbacks
   pub ran : status ≡ ok → Ran Logs old (take count bytes) new
   pub works : status ≡ ok → (old.is_failed ≡ false) × (new.is_failed ≡ false)
   pub memory : ¬ (status ≡ ok) → old.is_failed ≡ false → (status ≡ out_of_memory) × StoppedAt Logs old bytes count new
