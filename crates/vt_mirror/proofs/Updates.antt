@@ -18,6 +18,7 @@ use Rattle.vt_mirror.specs.Calls.{IsDrawn, IsFullAfter, IsFullUpdate, IsOfKind, 
 use Rattle.vt_mirror.specs.Calls.{kind_repeating, kind_without_repeats}
 use Rattle.vt_mirror.specs.Internals.{RepeatsUpdate}
 use Rattle.vt_redraw.specs.Picture.{Picture}
+use Rattle.vt_screen.specs.RepeatInternals.{KeepsPieces}
 use Rattle.vt_screen.specs.Repeating.{Repeats}
 use Rattle.vt_screen.specs.declared.repeat.Repeat.{Repeat}
 use Rattle.vt_screen.specs.declared.repeat.Repeat.TheVariants.{Never, Ascii, Any}
@@ -113,13 +114,17 @@ full_update inside mirror viewer noted (Err error) same e unsteady is = tt
 
 -- A diff of the kind that the options ask for, made from a diff without REP.
 repeats_diff : (repeat : Repeat) (scroll : Bool) (self prev : ScreenValue) (plain text : List ℕ) →
-    IsOfKind (kind_without_repeats scroll) self prev plain → MayRepeat repeat prev plain text →
+    IsOfKind (kind_without_repeats scroll) self prev plain → MayRepeat repeat prev plain text → KeepsPieces plain text →
     IsOfKind (kind_repeating scroll repeat) self prev text
-repeats_diff Never scroll self prev plain text is may = subst (IsOfKind (kind_without_repeats scroll) self prev) (sym may) is
-repeats_diff Ascii true self prev plain text is may = record { plain = plain; is = is; repeats = may }
-repeats_diff Ascii false self prev plain text is may = record { plain = plain; is = is; repeats = may }
-repeats_diff Any true self prev plain text is may = record { plain = plain; is = is; repeats = may }
-repeats_diff Any false self prev plain text is may = record { plain = plain; is = is; repeats = may }
+repeats_diff Never scroll self prev plain text is may keeps = subst (IsOfKind (kind_without_repeats scroll) self prev) (sym may) is
+repeats_diff Ascii true self prev plain text is may keeps =
+    record { plain = plain; is = is; repeats = may; controls = keeps true is.controls }
+repeats_diff Ascii false self prev plain text is may keeps =
+    record { plain = plain; is = is; repeats = may; controls = keeps false is.controls }
+repeats_diff Any true self prev plain text is may keeps =
+    record { plain = plain; is = is; repeats = may; controls = keeps true is.controls }
+repeats_diff Any false self prev plain text is may keeps =
+    record { plain = plain; is = is; repeats = may; controls = keeps false is.controls }
 
 repeats_full : (repeat : Repeat) (scroll : Bool) (self prev : ScreenValue) (rows cols : ℕ) (text : List ℕ) →
     IsFullAfter (kind_without_repeats scroll) self prev rows cols text →
@@ -139,7 +144,7 @@ repeats_update repeat scroll self (Some prev) (Full rows cols text) new is repea
     (repeats_full repeat scroll self prev rows cols (string_bytes text) is)
 repeats_update repeat scroll self (Some prev) (Diff text) (Full rows cols short) is repeats = absurd repeats
 repeats_update repeat scroll self (Some prev) (Diff text) (Diff short) is repeats =
-    repeats_diff repeat scroll self prev (string_bytes text) (string_bytes short) is repeats
+    repeats_diff repeat scroll self prev (string_bytes text) (string_bytes short) is repeats.0 repeats.1
 
 -- An update of a mirror that was unchanged when the runs were written.
 pub repeats_after : (repeat : Repeat) (scroll : Bool) (old between : MirrorValue) (viewer : ℕ) (plain new : Update)
@@ -163,9 +168,9 @@ repeats_from repeat noted copy width room plain text alike w r repeats =
 
 pub repeats_noted : (repeat : Repeat) (inside mirror : MirrorValue) (viewer : ℕ) (noted : ScreenValue) (plain : Update)
     (text short : String Global) → inside ≡ mirror → note_of inside.viewers viewer ≡ Some noted → plain ≡ Diff text
-    → MayRepeat repeat noted (string_bytes text) (string_bytes short)
+    → MayRepeat repeat noted (string_bytes text) (string_bytes short) → KeepsPieces (string_bytes text) (string_bytes short)
     → RepeatsUpdate repeat (note_of mirror.viewers viewer) plain (Diff short)
-repeats_noted repeat inside mirror viewer noted plain text short same e is may =
+repeats_noted repeat inside mirror viewer noted plain text short same e is may keeps =
     subst (λ (m : MirrorValue). RepeatsUpdate repeat (note_of m.viewers viewer) plain (Diff short)) same
     (subst (λ (o : Option ScreenValue). RepeatsUpdate repeat o plain (Diff short)) (sym e)
-    (subst (λ (u : Update). RepeatsUpdate repeat (Some noted) u (Diff short)) (sym is) may))
+    (subst (λ (u : Update). RepeatsUpdate repeat (Some noted) u (Diff short)) (sym is) (may, keeps)))

@@ -9,7 +9,7 @@ use Rattle.vt_grid.specs.Page.{SameSize}
 use Rattle.vt_redraw.specs.Redraw.{difference, redraw}
 use Rattle.vt_redraw.specs.Steady.{IsSteady}
 use Rattle.vt_screen.specs.Again.{KeepsPlain}
-use Rattle.vt_screen.specs.Diffs.{MayRepeat}
+use Rattle.vt_screen.specs.Diffs.{MayRepeat, diff_controls, finals_with}
 use Rattle.vt_screen.specs.MadeOf.{IsMadeOf, drawing_controls, drawing_finals, shortened_controls, shortened_finals}
 use Rattle.vt_screen.specs.Pages.{has_size, screen_after_resize}
 use Rattle.vt_screen.specs.Screen.{IsColored, IsScreen, ScreenValue}
@@ -137,11 +137,12 @@ IsWithoutRepeats true self prev text = Scrolls self prev text
 IsWithoutRepeats false self prev text = IsDrawn self prev text
 
 -- The text equals a diff without REP, which may move rows or columns if `scroll` is true, except that runs of the
--- characters that `repeat` allows may be written with REP.
+-- characters that `repeat` allows may be written with REP. It contains only drawing sequences and REP.
 pub record RepeatsRuns (scroll : Bool) (repeat : Repeat) (self prev : ScreenValue) (text : List ℕ) : Type 0 where
   pub plain : List ℕ
   pub is : IsWithoutRepeats scroll self prev plain
   pub repeats : MayRepeat repeat prev plain text
+  pub controls : IsMadeOf (finals_with repeat scroll) (diff_controls scroll) text
 
 abbrev pub IsOfKind : Kind → (self prev : ScreenValue) → (text : List ℕ) → Type 0
 IsOfKind Drawn self prev text = IsDrawn self prev text

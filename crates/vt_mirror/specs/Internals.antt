@@ -10,6 +10,7 @@ use Rattle.vt_screen.specs.Chain.{last_screen}
 use Rattle.vt100.specs.Parser.{Ran, does_nothing}
 use Rattle.vt_mirror.specs.Calls.{Drawn, GivesUpdate}
 use Rattle.vt_screen.specs.Diffs.{MayRepeat}
+use Rattle.vt_screen.specs.RepeatInternals.{KeepsPieces}
 use Rattle.vt_screen.specs.Screen.{ScreenValue}
 use Rattle.vt_screen.specs.declared.repeat.Repeat.{Repeat}
 use Rattle.vt_mirror.specs.Mirror.{MirrorValue}
@@ -30,7 +31,8 @@ abbrev pub RepeatsUpdate : (repeat : Repeat) → Option ScreenValue → (plain n
 RepeatsUpdate repeat None plain new = new ≡ plain
 RepeatsUpdate repeat (Some prev) (Full rows cols text) new = new ≡ Full rows cols text
 RepeatsUpdate repeat (Some prev) (Diff text) (Full rows cols short) = ⊥
-RepeatsUpdate repeat (Some prev) (Diff text) (Diff short) = MayRepeat repeat prev (string_bytes text) (string_bytes short)
+RepeatsUpdate repeat (Some prev) (Diff text) (Diff short) =
+    MayRepeat repeat prev (string_bytes text) (string_bytes short) × KeepsPieces (string_bytes text) (string_bytes short)
 
 -- The update is a full redraw or an empty diff.
 abbrev pub HasNoDiff : Update → Type 0

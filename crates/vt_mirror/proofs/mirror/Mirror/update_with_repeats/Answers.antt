@@ -15,3 +15,4 @@ returns-clause-ok c =
     (repeats_from c.args.repeat c.in-Some.noted.now c.screen-prev.result.now c.get-2.result c.saturating_sub-room.result
     (string_bytes c.in-Diff.text) (string_bytes c.in_ok-short.short) c.screen-prev.ensures
     (omega (arith, second, size)) (omega (arith, room, first, size, column)) c.in_ok-short.ensures.text)
+    c.in_ok-short.ensures.pieces
