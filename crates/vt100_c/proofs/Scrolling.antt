@@ -1,16 +1,16 @@
 -- The properties of output that may move rows first, stated for the text that was written.
-use Rattle.std.specs.Prelude.{◌≡◌, ◌≤◌, ℕ, List, length, IfOk, IsTrue, Result, Ok, Err, String, string_bytes}
+use Rattle.std.specs.Prelude.{◌≡◌, ◌≤◌, ℕ, List, [], length, IfOk, IsTrue, Result, Ok, Err, String, string_bytes}
 use Rattle.std.specs.Global.{Global}
 use Rattle.std.proofs.Common.{subst}
 use Rattle.vt_cells.specs.Op.{bytes_of_all}
 use Rattle.vt_cells.specs.declared.error.Error.{Error}
 use Rattle.vt_redraw.specs.Redraw.{difference}
 use Rattle.vt_screen.specs.Again.{KeepsPlain}
-use Rattle.vt_screen.specs.Diffs.{IsDiffWith, KeepsScreensPlain, RepeatsOnlyInRows}
+use Rattle.vt_screen.specs.Diffs.{IsDiffWith, KeepsScreensPlain, RepeatsOnlyInRows, diff_controls, finals_with}
 use Rattle.vt_screen.specs.MadeOf.{IsMadeOf, shortened_controls, shortened_finals}
 use Rattle.vt_screen.specs.Screen.{ScreenValue}
 use Rattle.vt_screen.specs.ShortMoves.{IsMovingOrRedraw}
-use Rattle.vt_screen.specs.Shown.{display, shown_text}
+use Rattle.vt_screen.specs.Shown.{IsSameIfEmpty, RedrawsFrom, display, shown_text}
 use Rattle.vt_screen.specs.TextResults.{IfText}
 use Rattle.vt_screen.specs.declared.diff_options.DiffOptions.{DiffOptions}
 use Rattle.vt100_c.specs.Texts.{IsDiffWithOptions, IsScrollingDiff}
@@ -25,33 +25,48 @@ pub scrolls : (screen prev : ScreenValue) (answer : Result (String Global) Error
     → IfText answer KeepsPlain
     → IfText answer (λ text. length text ≤ length (bytes_of_all (difference (display screen) (display prev))))
     → IfText answer (λ text. length text ≤ length (shown_text screen))
+    → IfText answer (RedrawsFrom prev screen)
+    → IfText answer (IsSameIfEmpty prev screen)
+    → IfText answer (λ text. display screen ≡ display prev → text ≡ [])
     → IfOk made (λ text. answer ≡ Ok text)
     → IfOk made (λ text. IsScrollingDiff screen prev (string_bytes text))
-scrolls screen prev answer (Ok text) draws controls again shorter redraw is = record {
+scrolls screen prev answer (Ok text) draws controls again shorter redraw redraws empty none is = record {
   draws = carried (IsMovingOrRedraw (display screen) (display prev)) answer text draws is;
   controls = carried (IsMadeOf shortened_finals shortened_controls) answer text controls is;
   again = carried KeepsPlain answer text again is;
   shorter = carried (λ t. length t ≤ length (bytes_of_all (difference (display screen) (display prev)))) answer text
       shorter is;
   redraw = carried (λ t. length t ≤ length (shown_text screen)) answer text redraw is;
+  redraws = carried (RedrawsFrom prev screen) answer text redraws is;
+  empty = carried (IsSameIfEmpty prev screen) answer text empty is;
+  none = carried (λ t. display screen ≡ display prev → t ≡ []) answer text none is;
 }
-scrolls screen prev answer (Err status) draws controls again shorter redraw is = is
+scrolls screen prev answer (Err status) draws controls again shorter redraw redraws empty none is = is
 
 pub with_options : (options : DiffOptions) (screen prev : ScreenValue) (answer : Result (String Global) Error)
     (made : Result (String Global) ℕ)
     → IfText answer (IsDiffWith options prev screen)
+    → IfText answer (IsMadeOf (finals_with options.repeat options.scroll) (diff_controls options.scroll))
     → IfText answer (RepeatsOnlyInRows prev screen)
     → IfText answer KeepsScreensPlain
     → IfText answer (λ text. length text ≤ length (bytes_of_all (difference (display screen) (display prev))))
     → (IsTrue options.scroll → IfText answer (λ text. length text ≤ length (shown_text screen)))
+    → IfText answer (RedrawsFrom prev screen)
+    → IfText answer (IsSameIfEmpty prev screen)
+    → IfText answer (λ text. display screen ≡ display prev → text ≡ [])
     → IfOk made (λ text. answer ≡ Ok text)
     → IfOk made (λ text. IsDiffWithOptions options screen prev (string_bytes text))
-with_options options screen prev answer (Ok text) draws rows again shorter redraw is = record {
+with_options options screen prev answer (Ok text) draws controls rows again shorter redraw redraws empty none is = record {
   draws = carried (IsDiffWith options prev screen) answer text draws is;
+  controls = carried (IsMadeOf (finals_with options.repeat options.scroll) (diff_controls options.scroll)) answer text
+      controls is;
   rows = carried (RepeatsOnlyInRows prev screen) answer text rows is;
   again = carried KeepsScreensPlain answer text again is;
   shorter = carried (λ t. length t ≤ length (bytes_of_all (difference (display screen) (display prev)))) answer text
       shorter is;
   redraw = λ moves. carried (λ t. length t ≤ length (shown_text screen)) answer text (redraw moves) is;
+  redraws = carried (RedrawsFrom prev screen) answer text redraws is;
+  empty = carried (IsSameIfEmpty prev screen) answer text empty is;
+  none = carried (λ t. display screen ≡ display prev → t ≡ []) answer text none is;
 }
-with_options options screen prev answer (Err status) draws rows again shorter redraw is = is
+with_options options screen prev answer (Err status) draws controls rows again shorter redraw redraws empty none is = is

@@ -11,8 +11,8 @@ use Rattle.vt100_c.specs.declared.object.Source.TheVariants.{Parser, Screen, Mir
 use Rattle.vt_grid.specs.Page.{SameSize}
 use Rattle.vt_scan.specs.Automaton.{start}
 use Rattle.vt_scan.specs.Scanner.{StandsFor}
-use Rattle.vt_screen.specs.Screen.{ScreenValue, fresh_screen}
-use Rattle.vt_screen.specs.Shown.{display}
+use Rattle.vt_screen.specs.Screen.{ScreenValue, fresh_screen, page_alone}
+use Rattle.vt_screen.specs.Shown.{ShowsOwnPage, ShowsScrollback, display}
 
 -- The value is a new parser with a blank screen of the given size and scrollback capacity, and an empty log that
 -- records calls of the requested kinds.
@@ -57,10 +57,19 @@ abbrev pub refusal_of : Option Source → ℕ
 refusal_of None = wrong_kind
 refusal_of (Some copy) = out_of_memory
 
--- The value is a saved screen that displays the same content as the given screen and has the same size.
+-- The screen `copy` has the size, the display and the modes of `screen`. While no scrollback is displayed, it is `screen`
+-- without scrollback and the inactive page; otherwise, it equals `screen`.
+pub record CopiesShown (screen copy : ScreenValue) : Type 0 where
+  pub shown : display copy ≡ display screen
+  pub size : SameSize copy.page screen.page
+  pub modes : copy.modes ≡ screen.modes
+  pub alone : ShowsOwnPage screen → copy ≡ page_alone screen
+  pub whole : ShowsScrollback screen → copy ≡ screen
+
+-- The value is a saved screen that copies what the given screen displays.
 abbrev pub IsShownCopy : ScreenValue → Source → Type 0
 IsShownCopy screen (Parser parser) = ⊥
-IsShownCopy screen (Screen copy) = (display copy ≡ display screen) × SameSize copy.page screen.page
+IsShownCopy screen (Screen copy) = CopiesShown screen copy
 IsShownCopy screen (Mirror mirror) = ⊥
 IsShownCopy screen (Capture written) = ⊥
 

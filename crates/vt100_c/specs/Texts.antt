@@ -1,5 +1,5 @@
 -- The text or output that each call generates.
-use Rattle.std.specs.Prelude.{◌≡◌, ◌<◌, ◌≤◌, ◌/◌, ◌%◌, ◌==◌, ℕ, IsTrue, List, Option, length, if◌then◌else◌}
+use Rattle.std.specs.Prelude.{◌≡◌, ◌<◌, ◌≤◌, ◌/◌, ◌%◌, ◌==◌, ℕ, IsTrue, List, [], Option, length, if◌then◌else◌}
 use Rattle.vt_cells.specs.Op.{bytes_of_all}
 use Rattle.vt_redraw.specs.Redraw.{cursor_state, difference, redraw}
 use Rattle.vt_rows.specs.Basic.{nothing_written}
@@ -7,7 +7,7 @@ use Rattle.vt_screen.specs.Again.{KeepsPlain}
 use Rattle.vt_screen.specs.AnyRegion.{reset_text}
 use Rattle.vt_screen.specs.Capture.{basic_texts}
 use Rattle.vt_screen.specs.Contents.{between_of, contents_of}
-use Rattle.vt_screen.specs.Diffs.{IsDiffWith, KeepsScreensPlain, RepeatsOnlyInRows}
+use Rattle.vt_screen.specs.Diffs.{IsDiffWith, KeepsScreensPlain, RepeatsOnlyInRows, diff_controls, finals_with}
 use Rattle.vt_screen.specs.declared.diff_options.DiffOptions.{DiffOptions}
 use Rattle.vt_screen.specs.declared.repeat.Repeat.{Repeat}
 use Rattle.vt_screen.specs.declared.repeat.Repeat.TheVariants.{Never, Ascii, Any}
@@ -15,7 +15,7 @@ use Rattle.vt_screen.specs.InputTexts.{input_change, input_text}
 use Rattle.vt_screen.specs.MadeOf.{IsMadeOf, shortened_controls, shortened_finals}
 use Rattle.vt_screen.specs.Screen.{ScreenValue, visible_rows}
 use Rattle.vt_screen.specs.ShortMoves.{IsMovingOrRedraw}
-use Rattle.vt_screen.specs.Shown.{attributes_text, display, shown_text}
+use Rattle.vt_screen.specs.Shown.{IsSameIfEmpty, RedrawsFrom, attributes_text, display, shown_text}
 use Rattle.vt_screen.specs.States.{state_change, state_text}
 use Rattle.vt100_c.specs.Due.{HoldBoth, HoldsScreen, any_screen, any_screens, sizes_status, source_at, start_status, text_at}
 use Rattle.vt100_c.specs.Status.{ok, out_of_memory}
@@ -48,14 +48,19 @@ due_for _ screen = any_screen screen
 -- ---- two screens
 
 -- The text is a diff from the display of `prev` to the display of `screen`, and it may move rows or columns, or be the
--- redraw of `screen`. It is never longer than the diff that moves no rows or columns, or than the redraw, contains only
--- drawing sequences, and leaves every plain terminal plain.
+-- redraw of `screen`. A plain terminal that displays `prev` and reads the text displays `screen`, if that screen is
+-- steady. The text is never longer than the diff that moves no rows or columns, or than the redraw, contains only drawing
+-- sequences, and leaves every plain terminal plain. It is empty if both screens have the same display, and if `screen` is
+-- steady, only then.
 pub record IsScrollingDiff (screen prev : ScreenValue) (text : List ℕ) : Type 0 where
   pub draws : IsMovingOrRedraw (display screen) (display prev) text
   pub controls : IsMadeOf shortened_finals shortened_controls text
   pub again : KeepsPlain text
   pub shorter : length text ≤ length (bytes_of_all (difference (display screen) (display prev)))
   pub redraw : length text ≤ length (shown_text screen)
+  pub redraws : RedrawsFrom prev screen text
+  pub empty : IsSameIfEmpty prev screen text
+  pub none : display screen ≡ display prev → text ≡ []
 
 -- The characters that may be repeated with REP, given the bits of a number: all if bit 1 is set, otherwise printable
 -- ASCII characters if bit 2 is set, otherwise none.
@@ -66,15 +71,21 @@ repeat_of bits = if bits / 2 % 2 == 1 then Any else (if bits / 4 % 2 == 1 then A
 abbrev pub options_of : ℕ → DiffOptions
 options_of bits = record { scroll = bits % 2 == 1; repeat = repeat_of bits }
 
--- The text is a diff from the display of `prev` to the display of `screen` with the given options. It is never longer
--- than the diff that moves no rows or columns or, if it may move them, than the redraw. It repeats characters only within
--- rows, and leaves every plain terminal plain.
+-- The text is a diff from the display of `prev` to the display of `screen` with the given options. A plain terminal that
+-- displays `prev` and reads the text displays `screen`, if that screen is steady. The text is never longer than the diff
+-- that moves no rows or columns or, if it may move them, than the redraw. It contains only drawing sequences and REP,
+-- repeats characters only within rows, and leaves every plain terminal plain. It is empty if both screens have the same
+-- display, and if `screen` is steady, only then.
 pub record IsDiffWithOptions (options : DiffOptions) (screen prev : ScreenValue) (text : List ℕ) : Type 0 where
   pub draws : IsDiffWith options prev screen text
+  pub controls : IsMadeOf (finals_with options.repeat options.scroll) (diff_controls options.scroll) text
   pub rows : RepeatsOnlyInRows prev screen text
   pub again : KeepsScreensPlain text
   pub shorter : length text ≤ length (bytes_of_all (difference (display screen) (display prev)))
   pub redraw : IsTrue options.scroll → length text ≤ length (shown_text screen)
+  pub redraws : RedrawsFrom prev screen text
+  pub empty : IsSameIfEmpty prev screen text
+  pub none : display screen ≡ display prev → text ≡ []
 
 abbrev pub IsDifference : Difference → ScreenValue → ScreenValue → List ℕ → Type 0
 IsDifference between.Contents screen prev text = text ≡ bytes_of_all (difference (display screen) (display prev))

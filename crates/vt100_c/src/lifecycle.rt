@@ -79,8 +79,9 @@ pub extern "C" fn vt100_save(alloc: Global, handle: &mut Handle, out: &mut Handl
 }
 
 /// Saves a copy of the display of a parser's screen or a saved screen in the empty handle `out`.
-/// The copy is a saved screen of the same size, without scrollback and without the inactive page.
-/// While scrollback is displayed, the whole screen is copied ([`Screen::shown_copy`]).
+/// The copy is a saved screen of the same size and with the same modes, without scrollback and
+/// without the inactive page. While scrollback is displayed, the whole screen is copied
+/// ([`Screen::shown_copy`]).
 ///
 /// # Errors
 ///
@@ -215,7 +216,8 @@ fn copy_of(source: &Source) -> Result<Source, u8>
     }
 }
 
-/// Returns a saved screen that has the same size and the same display as the screen of a source.
+/// Returns a saved screen that copies what the screen of a source displays, as
+/// [`vt100_shown_copy`] describes.
 ///
 /// # Errors
 ///

@@ -6,4 +6,5 @@ returns-clause-text c =
     scrolls _ _ c.contents_diff_scrolling.result c.or_status.result
     c.contents_diff_scrolling.ensures.text c.contents_diff_scrolling.ensures.controls
     c.contents_diff_scrolling.ensures.again c.contents_diff_scrolling.ensures.shorter
-    c.contents_diff_scrolling.ensures.redraw c.or_status.ensures.text
+    c.contents_diff_scrolling.ensures.redraw c.contents_diff_scrolling.ensures.redraws
+    c.contents_diff_scrolling.ensures.empty c.contents_diff_scrolling.ensures.none c.or_status.ensures.text
