@@ -217,7 +217,7 @@ pub event_left : (mark : Mark) (old now new : ParserValue Logged) (bytes : List 
     → HasReadQuietly mark old bytes at now → ReadsUnit now (drop at bytes) count status new → status ≡ ok
     → is_quiet mark new.callbacks ≡ false → ReadsFrom mark bytes (at + count) old ok new
 event_left mark old now new bytes at count status read unit well event = elim (unit.last well) [
-  | inl same ↦ absurd (false≢true (sym event ∙ ap (is_quiet mark) same ∙ read.quiet))
+  | inl same ↦ absurd (false≢true (sym event ∙ ap (is_quiet mark) same.0 ∙ read.quiet))
   | inr some ↦
       let more = count - 1 in
       let one : more + 1 ≡ count = omega (arith, some.0) in
