@@ -42,13 +42,15 @@ def copy_files(root, to):
 
 
 def take(name, folder, stamp, to):
-    """Copies a library with its stamp. Returns the reason if that fails, otherwise None."""
+    """Copies a library with its stamp, unless it is there already. Returns the reason if that fails, otherwise ""."""
     made = f"{folder}/out/rlib/{name}.rlib"
     if not os.path.isdir(made):
         return f"{name} is not built"
     if os.stat(made).st_mtime < newest(folder):
         return f"{name} has changed since it was built"
     target = f"{to}/crates/{name}/out/rlib"
+    if os.path.isdir(target):
+        return ""
     shutil.copytree(made, f"{target}/{name}.rlib")
     with open(f"{target}/stamp", "w", encoding="utf-8") as file:
         file.write(stamp)
@@ -56,10 +58,11 @@ def take(name, folder, stamp, to):
 
 
 def take_built(root, name, to):
-    """Copies the files and the libraries on which a crate depends, up to the first that cannot be copied, and returns a
-    report of one line.
+    """Copies the files, unless they are there already, and the libraries on which a crate depends, up to the first that
+    cannot be copied, and returns a report of one line.
     """
-    copy_files(root, to)
+    if not os.path.isdir(f"{to}/crates"):
+        copy_files(root, to)
     below = libraries(root, name)
     for count, (library, folder, stamp) in enumerate(below):
         why = take(library, folder, stamp, to)

@@ -8,6 +8,8 @@ from sources import read
 
 FUNCTION = re.compile(r"^( *)(?:pub(?:\([\w ]+\))? )?(?:const |unsafe |extern \"C\" )*fn (\w+)")
 BLOCK = re.compile(r"(?:unsafe )?(impl|pub trait|trait)(?:<.*?>)? (\w+)(.*)")
+FORM = re.compile(r"file: (?P<file>src/\S+)(?P<pairs>(\nold: .*\nnew:.*)+)")
+PAIR = re.compile(r"\nold: (.*)\nnew: ?(.*)")
 
 
 def write(path, text):
@@ -29,23 +31,21 @@ def function_at(lines, at):
 
 
 class Edit:
-    """A wrong edit: its pairs of texts, and the first and last lines of the functions that it changes."""
+    """A wrong edit: its pairs of texts, and the first and last lines of the functions that it changes; there are none
+    if the edit cannot be applied.
+    """
 
-    def __init__(self, path):
-        self.path = path
-        text = read(path)
-        self.file = re.search(r"^file: (\S+)$", text, re.M)[1]
-        olds = re.findall(r"^old: (.*)$", text, re.M)
-        news = re.findall(r"^new: ?(.*)$", text, re.M)
-        self.pairs = list(zip(olds, news))
-        has_pairs = len(olds) == len(news) > 0 and self.applied(self.source()) is not None
-        self.functions = self.ranges() if has_pairs else []
-
-    def name(self):
-        return os.path.basename(self.path)
+    def __init__(self, folder, name, text):
+        self.folder, self.name = folder, name
+        lines = [it for it in text.split("\n") if it.strip() and not it.startswith("#")]
+        form = FORM.fullmatch("\n".join(lines)) if name else None
+        self.file = form["file"] if form else ""
+        self.pairs = PAIR.findall(form["pairs"]) if form else []
+        is_file = form and os.path.exists(f"{folder}/{self.file}")
+        self.functions = self.ranges() if is_file and self.applied(self.source()) is not None else []
 
     def source(self):
-        return read(f"{os.path.dirname(self.path)}/../{self.file}")
+        return read(f"{self.folder}/{self.file}")
 
     def applied(self, text):
         """Returns the text with the edit applied, or None if one of its texts does not occur there exactly once."""
@@ -100,6 +100,21 @@ class Edit:
         parts = function.name.split("::")[1:]
         own = [head[2] for _, head in self.heads()]
         return parts[-1] in own and (module in ("lib", "main") or parts[0] == module)
+
+
+def in_file(folder):
+    """Returns the edits in wrong-edits.txt of a crate. Lines before the first heading are an edit that does not fit."""
+    path = f"{folder}/wrong-edits.txt"
+    text = read(path) if os.path.exists(path) else ""
+    before, *parts = re.split(r"^== ", text, flags=re.M)
+    parts += ["\n" + before] if re.search(r"^[^#\n]", before, re.M) else []
+    return [Edit(folder, name, lines) for name, _, lines in (it.partition("\n") for it in parts)]
+
+
+def in_must_fail(folder):
+    """Returns the edits of a crate that `rt ci` tries."""
+    paths = sorted(glob.glob(f"{folder}/must-fail/*.edit"))
+    return [Edit(folder, os.path.basename(it)[: -len(".edit")], read(it)) for it in paths]
 
 
 def groups_of(edits):

@@ -57,8 +57,13 @@ class Holes(unittest.TestCase):
         self.assertTrue(any(says in it for it in new_lines), after)
 
     def test_an_edit_that_does_not_fit(self):
-        edit = "crates/vt_cells/must-fail-in-groups/dim-is-bold.edit"
-        self.assert_reported(edit, "^old: ", "old: no such text ", ["tests/wrong-edits", "--fit"], "dim-is-bold")
+        old, new, command = r"(file: src/attrs.rt\nold: )", r"\1no such text ", ["tests/wrong-edits", "--fit"]
+        for file, name in [("must-fail/dim-is-bold.edit", "dim-is-bold"), ("wrong-edits.txt", "background-is")]:
+            self.assert_reported(f"crates/vt_cells/{file}", old, new, command, name)
+
+    def test_a_wrong_count(self):
+        other = "other 9 wrong"
+        self.assert_reported("docs/TESTING.md", r"other \d+ wrong", other, ["tests/documents"], other)
 
     def test_a_clause_quoted_without_its_premise(self):
         quoted = r"^shows : IsSteady picture → "
@@ -145,16 +150,13 @@ class All(unittest.TestCase):
 
     def setUp(self):
         self.room = tempfile.mkdtemp(prefix="all-")
-        os.makedirs(f"{self.room}/crates/low/must-fail-in-groups")
-        shutil.copytree(f"{ROOT}/tests/lib", f"{self.room}/tests/lib")
+        os.mkdir(f"{self.room}/tests")
         shutil.copy(f"{ROOT}/tests/all", f"{self.room}/tests")
-        write(f"{self.room}/crates.txt", "low:\n")
-        write(f"{self.room}/crates/low/must-fail-in-groups/a.edit", "file: src/lib.rt\n")
-        names = "documents surface trust imports self refusals programs pictures scarce".split()
-        for name in ["bench/table", "bin/rt", "tests/wrong-edits", *[f"tests/{it}" for it in names]]:
+        names = "wrong-edits documents surface trust imports self refusals programs pictures scarce bindings targets"
+        others = ["bench/table", "bindings/archive", "bindings/wasm/toolchain"]
+        for name in [*others, *[f"tests/{it}" for it in names.split()]]:
             self.script(name, "exit 0")
         self.script("bin/rt", FAKE_RT)
-        self.script("tests/wrong-edits", "echo 'low: 1 of 1 wrong edits in 1 checks, 0 wrong'")
 
     def tearDown(self):
         shutil.rmtree(self.room)
@@ -175,25 +177,17 @@ class All(unittest.TestCase):
         return ran.returncode, ran.stdout.rstrip("\n").rpartition("\n")[2]
 
     def test_all_is_counted(self):
-        self.assertEqual(self.ran(), (0, "21 passed, 0 failed"))
+        self.assertEqual(self.ran(), (0, "22 passed, 0 failed"))
 
     def test_a_failed_program_test(self):
         self.script("tests/pictures", "exit 1")
-        self.assertEqual(self.ran(), (1, "20 passed, 1 failed"))
+        self.assertEqual(self.ran(), (1, "21 passed, 1 failed"))
 
     def test_a_failed_first_test(self):
         self.script("tests/trust", "exit 1")
-        self.assertEqual(self.ran(), (1, "5 passed, 1 failed"))
+        self.assertEqual(self.ran(), (1, "6 passed, 1 failed"))
 
     def test_a_failed_gate(self):
         status, last = self.ran("6 passed, 1 failed", "1")
-        self.assertEqual(status, 1)
-        # (the edits are not tried if the gate ends first)
-        self.assertRegex(last, r"^\d+ passed, [1-3] failed$")
-        status, last = self.ran("", "2")
-        self.assertEqual(status, 2)
-        self.assertRegex(last, r"^\d+ passed, [1-3] failed$")
-
-    def test_a_crate_that_was_not_tried(self):
-        self.script("tests/wrong-edits", "exit 0")
-        self.assertEqual(self.ran(), (1, "20 passed, 1 failed"))
+        self.assertEqual((status, last), (1, "21 passed, 1 failed"))
+        self.assertEqual(self.ran("", "2"), (2, "15 passed, 1 failed"))

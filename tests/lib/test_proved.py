@@ -77,12 +77,13 @@ class Proved(unittest.TestCase):
 
     def said(self, *names):
         """Returns what tests/wrong-edits reports for these edits."""
+        text = ""
         for name in names:
             words = zip(("old", "new") * 2, EDITS[name])
-            path = f"{self.room}/crates/tiny/must-fail-in-groups/{name}.edit"
-            write(path, "file: src/lib.rt\n" + "".join(f"{word}: {text}\n" for word, text in words))
+            text += f"== {name}\nfile: src/lib.rt\n" + "".join(f"{word}: {it}\n" for word, it in words)
+        write(f"{self.room}/crates/tiny/wrong-edits.txt", text)
         ran = subprocess.run(
-            [f"{self.room}/tests/wrong-edits", "--here", "tiny"], stdin=subprocess.DEVNULL,
+            [f"{self.room}/tests/wrong-edits", "tiny"], stdin=subprocess.DEVNULL,
             stdout=subprocess.PIPE, stderr=subprocess.STDOUT, universal_newlines=True, check=False,
         )
         return ran.returncode, ran.stdout
@@ -90,13 +91,13 @@ class Proved(unittest.TestCase):
     def test_edits_that_show_nothing(self):
         status, said = self.said("harmless", "new-name", "no-program", "loop")
         self.assertEqual(status, 1)
-        self.assertIn("loop.edit: SHOWS NOTHING", said)
-        self.assertIn("harmless.edit: NOT REFUSED", said)
-        self.assertIn("new-name.edit: NOT REFUSED", said)
-        self.assertIn("no-program.edit: NO PROGRAM", said)
-        self.assertIn("0 refused, 4 wrong", said)
+        self.assertIn("tiny: loop: SHOWS NOTHING", said)
+        self.assertIn("tiny: harmless: NOT REFUSED", said)
+        self.assertIn("tiny: new-name: NOT REFUSED", said)
+        self.assertIn("tiny: no-program: NO PROGRAM", said)
+        self.assertIn("0 refused, 0 at a limit, 4 wrong", said)
 
     def test_wrong_edits_of_a_function_and_its_callee(self):
         status, said = self.said("wrong", "wrong-again", "wrong-new-name")
         self.assertEqual(status, 0, said)
-        self.assertIn("3 refused, 0 wrong", said)
+        self.assertIn("3 refused, 0 at a limit, 0 wrong", said)

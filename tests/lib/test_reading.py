@@ -1,14 +1,13 @@
-"""Tests how sources, imports, lanes and verdicts are read."""
+"""Tests how sources, imports, wrong edits and verdicts are read."""
 import os
 import tempfile
 import unittest
 
 import imports
-import lanes
 import surface
 import verdicts
 import words
-from edits import Edit, groups_of, renamed
+from edits import groups_of, in_file, in_must_fail, renamed
 from sources import functions_in
 
 SOURCE = """//! A crate.
@@ -139,55 +138,49 @@ class Verdicts(unittest.TestCase):
         self.assertEqual(verdicts.Verdict(1, text, True).functions[0].why(), verdicts.REFUSED)
 
     def test_a_limit(self):
-        self.assertTrue(verdicts.Verdict(1, LIMIT + "fn low::a: not proved").functions[0].is_at_limit)
+        self.assertEqual(self.why(LIMIT + "fn low::a: not proved"), verdicts.AT_LIMIT)
+        self.assertEqual(self.why(LIMIT + OPEN + "fn low::a: not proved"), verdicts.REFUSED)
+        self.assertEqual(self.why(ANSWER + LIMIT + "fn low::a: not proved"), verdicts.REFUSED)
+        self.assertEqual(self.why(RENAMED + LIMIT + OPEN + "fn low::a: not proved"), verdicts.AT_LIMIT)
 
 
 class Edits(unittest.TestCase):
     def setUp(self):
         self.room = tempfile.TemporaryDirectory()
-        os.makedirs(f"{self.room.name}/src")
-        os.makedirs(f"{self.room.name}/edits")
-        with open(f"{self.room.name}/src/lib.rt", "w", encoding="utf-8") as file:
-            file.write(SOURCE)
+        self.write("src/lib.rt", SOURCE)
 
     def tearDown(self):
         self.room.cleanup()
 
-    def edit(self, name, old):
-        path = f"{self.room.name}/edits/{name}.edit"
+    def write(self, path, text):
+        path = f"{self.room.name}/{path}"
+        os.makedirs(os.path.dirname(path), exist_ok=True)
         with open(path, "w", encoding="utf-8") as file:
-            file.write(f"file: src/lib.rt\nold: {old}\nnew: x\n")
-        return Edit(path)
+            file.write(text)
+
+    def edits(self, *olds):
+        """Returns the edits of a file that has one for each text."""
+        parts = [f"\n== {it}\nfile: src/lib.rt\nold: {it}\nnew: x\n" for it in olds]
+        self.write("wrong-edits.txt", "# A comment.\n" + "".join(parts))
+        return in_file(self.room.name)
 
     def test_fit(self):
-        self.assertEqual(self.edit("in", "self.rows.get(at)").functions, [(7, 14)])
-        self.assertEqual(self.edit("twice", "self.now").functions, [])
-        self.assertEqual(self.edit("outside", "A crate").functions, [])
+        inside, twice, outside = self.edits("self.rows.get(at)", "self.now", "A crate")
+        self.assertEqual((inside.name, inside.functions), ("self.rows.get(at)", [(7, 14)]))
+        self.assertEqual((twice.functions, outside.functions), ([], []))
+
+    def test_forms(self):
+        edit = "file: src/lib.rt\nold: one()\nnew:   two()\nold: two()\nnew:\n"
+        self.write("must-fail/a.edit", edit)
+        rest = f"== b\n# why\n{edit}\n== c\n{edit}nwe: x\n== d\n\n== e\nfile: src/a.rt\nold: a\nnew: b\n== f"
+        self.write("wrong-edits.txt", edit + rest)
+        (whole,) = in_must_fail(self.room.name)
+        self.assertEqual((whole.name, whole.pairs), ("a", [("one()", "  two()"), ("two()", "")]))
+        found = {it.name: bool(it.functions) for it in in_file(self.room.name)}
+        self.assertEqual(found, {"": False, "b": True, "c": False, "d": False, "e": False, "f": False})
 
     def test_groups(self):
-        edits = [self.edit("a", "self.rows"), self.edit("b", ".get(at)"), self.edit("c", "one() == 1")]
-        groups = [[it.name() for it in group] for group in groups_of(edits)]
-        self.assertEqual(groups, [["a.edit", "c.edit"], ["b.edit"]])
+        edits = self.edits("self.rows", ".get(at)", "one() == 1")
+        groups = [[it.name for it in group] for group in groups_of(edits)]
+        self.assertEqual(groups, [["self.rows", "one() == 1"], [".get(at)"]])
         self.assertEqual([*edits[0].paths(), *edits[2].paths()], ["Parser::row", "root"])
-
-
-class Lanes(unittest.TestCase):
-    def repository(self, room, crates):
-        with open(f"{room}/crates.txt", "w", encoding="utf-8") as file:
-            file.write("low:\nhigh: low\nforeign staticlib: high\n")
-        for name in crates:
-            os.makedirs(f"{room}/crates/{name}/must-fail-in-groups")
-            with open(f"{room}/crates/{name}/must-fail-in-groups/a.edit", "w", encoding="utf-8") as file:
-                file.write("file: src/lib.rt\n")
-
-    def test_each_crate_has_a_lane(self):
-        with tempfile.TemporaryDirectory() as room:
-            self.repository(room, ["low", "high", "foreign"])
-            self.assertEqual(lanes.lanes(room), ([(1, ["low"]), (1, ["high"])], ["foreign"]))
-
-    def test_a_crate_that_no_lane_tries(self):
-        with tempfile.TemporaryDirectory() as room:
-            self.repository(room, ["low", "stray"])
-            self.assertRaises(SystemExit, lanes.lanes, room)
-            texts = ["low: 2 of 3 wrong edits in 1 checks, 0 wrong\nstray: 0 of 3 wrong edits in 0 checks, 0 wrong\n"]
-            self.assertEqual(lanes.untried(room, texts), ["stray"])

@@ -1,7 +1,6 @@
 """Tries wrong edits of a crate, group by group: see tests/wrong-edits."""
-import verdicts
 from edits import run_check
-from verdicts import CALLEE_ONLY, NAMES_ONLY, REFUSED, Verdict, judge
+from verdicts import AT_LIMIT, CALLEE_ONLY, NAMES_ONLY, REFUSED, Verdict, judge
 
 NO_PROGRAM = "NO PROGRAM"
 ROUNDS = 3
@@ -12,7 +11,7 @@ class Trial:
 
     def __init__(self, folder, jobs, check=run_check):
         self.folder, self.jobs, self.check = folder, jobs, check
-        self.found, self.strays, self.checks, self.at_limit = {}, [], 0, 0
+        self.found, self.strays, self.checks = {}, [], 0
 
     def run(self, group, paths, renames):
         self.checks += 1
@@ -37,12 +36,11 @@ class Trial:
             return
         found, strays = judge(verdict, group)
         self.strays += strays
-        self.at_limit += sum(it.is_at_limit and it.why() == REFUSED for it in verdict.functions)
         self.found.update(found)
         if len(group) > 1:
-            for edit in [it for it in group if found[it.path] == CALLEE_ONLY]:
+            for edit in [it for it in group if found[it] == CALLEE_ONLY]:
                 self.try_group([edit], renames)
-        again = [it for it in group if found[it.path] == NAMES_ONLY]
+        again = [it for it in group if found[it] == NAMES_ONLY]
         functions = [it for it in verdict.functions if any(edit.changes(it) for edit in again)]
         new = [it for function in functions for it in verdict.renames(function)]
         if new and rounds:
@@ -53,7 +51,7 @@ class Trial:
         places = verdict.no_program()
         bad = [it for it in group if any(it.has(*at) for at in places)]
         rest = [it for it in group if it not in bad]
-        self.found.update((it.path, NO_PROGRAM) for it in bad)
+        self.found.update((it, NO_PROGRAM) for it in bad)
         if bad and rest:
             self.try_group(rest)
         elif len(rest) > 1:
@@ -61,10 +59,13 @@ class Trial:
                 self.try_group([it])
         elif rest:
             said = "\n".join(it[:300] for it in verdict.said[-8:])
-            self.found[rest[0].path] = NO_PROGRAM if places else f"no verdict:\n{said}"
+            self.found[rest[0]] = NO_PROGRAM if places else f"no verdict:\n{said}"
 
     def wrong(self):
-        """Returns the faults, by the path of the edit or the name of the function."""
-        found = {path: why for path, why in self.found.items() if why != verdicts.REFUSED}
-        found.update((name, "REFUSED with no edit of its own") for name in self.strays)
-        return found
+        """Returns the faults, each with the name of the edit or of the function."""
+        found = [(edit.name, why) for edit, why in self.found.items() if why not in (REFUSED, AT_LIMIT)]
+        return found + [(name, "REFUSED with no edit of its own") for name in self.strays]
+
+    def at_limit(self):
+        """Returns the edits that show less, because the search met a limit."""
+        return [(edit.name, AT_LIMIT) for edit, why in self.found.items() if why == AT_LIMIT]

@@ -1,11 +1,12 @@
 """Reads what `rt check` reports for each function, and determines why a function is rejected.
 
 A function is rejected for its meaning if a goal stays open, or if an answer in its proof files does not prove its goal.
-It is not if only names in its proof files no longer match: a field that the edit renamed, or a goal that now has
-another name. The goal of such an answer is reported as open under its new name, so one open goal is ignored for each
-such answer, except goals that values show to be false. If the names were changed for a second attempt, answers no
-longer count, but only goals that stay open. Nor is a function rejected for its meaning if a loop of the edit has no
-measure or invariant, because the goals were then not tried.
+If the search gave up at one of its limits for every goal that stays open, the function is told apart, since these goals
+may hold. It is not rejected for its meaning if only names in its proof files no longer match: a field that the edit
+renamed, or a goal that now has another name. The goal of such an answer is reported as open under its new name, so one
+open goal is ignored for each such answer, except goals that values show to be false. If the names were changed for a
+second attempt, answers no longer count, but only goals that stay open. Nor is a function rejected for its meaning if a
+loop of the edit has no measure or invariant, because the goals were then not tried.
 """
 import re
 
@@ -23,6 +24,7 @@ PROVED = "NOT REFUSED"
 NAMES_ONLY = "SHOWS NOTHING: only names in its proof files no longer fit, so change a value and keep the names"
 NO_INVARIANT = "SHOWS NOTHING: its proof files have no measure or invariant for a loop"
 NO_GOAL = "SHOWS NOTHING: no goal stays open"
+AT_LIMIT = "AT A LIMIT: the search gave up at every goal that stays open"
 CALLEE_ONLY = "NOT TRIED: a function that it calls is refused"
 NOT_TOLD = "COULD NOT TELL"
 
@@ -40,6 +42,11 @@ def is_renamed(old, new):
     return condition.search(old) is not None and condition.sub(r"\1", old) == condition.sub(r"\1", new)
 
 
+def gave_up(goal):
+    """Returns whether the search for a proof of a goal ended at one of its limits."""
+    return "gave up" in goal[4]
+
+
 class Function:
     """What a check reported for one function."""
 
@@ -49,11 +56,11 @@ class Function:
         self.places = [(f"src/{it[1]}", int(it[2])) for it in goals]
         renamed = [it for it in errors if RENAMED_GOAL.search(it)]
         is_false = [it for it in goals if "values at which this goal is false" in it[4]]
-        self.open = is_false + [it for it in goals if it not in is_false][len(renamed) :]
+        others = sorted((it for it in goals if it not in is_false), key=gave_up)
+        self.open = is_false + others[len(renamed) :]
         # (an answer to a goal about a condition that changed may not fit, though the goal holds)
         answers = [] if has_renames else errors
         self.wrong_answers = [it for it in answers if not NAMES.search(re.sub(r"`[^`]*`", "``", it))]
-        self.is_at_limit = bool(goals) and all("gave up" in it[4] for it in goals)
 
     def why(self):
         """Returns why the function is rejected, or that it is not."""
@@ -61,8 +68,10 @@ class Function:
             return PROVED
         if self.words.startswith("could not tell"):
             return NOT_TOLD
-        if self.open or self.wrong_answers:
+        if self.wrong_answers or not all(map(gave_up, self.open)):
             return REFUSED
+        if self.open:
+            return AT_LIMIT
         if re.search(r"it calls|it passes|a call of|it waits", self.words):
             return CALLEE_ONLY
         if "Invariants.antt" in self.words:
@@ -115,14 +124,12 @@ class Verdict:
 
 
 def judge(verdict, edits):
-    """Returns, by the path of each edit, why it is rejected or not, and the functions that are rejected without being
-    edited.
-    """
+    """Returns why each edit is rejected or not, and the functions that are rejected without being edited."""
     found, strays = {}, []
     for edit in edits:
         reasons = [it.why() for it in verdict.functions if edit.changes(it)]
-        order = (REFUSED, NOT_TOLD, NAMES_ONLY, NO_INVARIANT, NO_GOAL, CALLEE_ONLY, PROVED)
-        found[edit.path] = min(reasons, key=order.index) if reasons else PROVED
+        order = (REFUSED, NOT_TOLD, AT_LIMIT, NAMES_ONLY, NO_INVARIANT, NO_GOAL, CALLEE_ONLY, PROVED)
+        found[edit] = min(reasons, key=order.index) if reasons else PROVED
     for it in verdict.functions:
         if it.why() not in (PROVED, CALLEE_ONLY) and not any(edit.changes(it) for edit in edits):
             strays.append(it.name)
