@@ -10,20 +10,18 @@
 mod case;
 mod cut;
 mod given;
-mod lines;
 mod replay;
 mod script;
-mod tally;
 mod text;
 
 use anyhow::{Context, Result, bail};
 use case::Case;
+use replay::Tally;
 use script::Script;
 use std::num::NonZeroU16;
 use std::process::ExitCode;
 use std::rt::{Env, Files};
 use std::{env, fs};
-use tally::Tally;
 
 /// Replays the cases and scripts of one file.
 fn replay_file<R: AllocGlobal + Print>(rt: &R, text: &str, tally: &mut Tally) -> Result<()> {

@@ -1,11 +1,12 @@
-//! The replay of one case.
+//! The replay of one case, and the counts of replayed cases.
 
 use crate::case::Case;
 use crate::cut;
 use crate::given::{difference, gives};
-use crate::lines::{other_lines, picture_lines};
+use crate::text::{other_lines, picture_lines};
 use anyhow::{Context, Result};
 use std::alloc::Global;
+use std::fmt;
 use vt_notes::Notes;
 use vt100::{Parser, Screen};
 
@@ -175,4 +176,30 @@ fn is_drawn_by(alloc: Global, case: &Case<'_>, texts: &[&[u8]], redraw: &str) ->
 /// Creates a parser of the size that a case specifies, and feeds the chunks in `pieces` to it.
 fn fed(alloc: Global, case: &Case<'_>, pieces: &[&[u8]]) -> Result<Parser<Notes>> {
     Ok(vt_notes::read(alloc, case.rows, case.cols, pieces)?)
+}
+
+/// Counts of replayed cases.
+#[derive(Clone, Copy, Default)]
+pub struct Tally {
+    run: u64,
+
+    /// The number of cases whose replay differed from the expected state.
+    pub differ: u64,
+}
+
+impl Tally {
+    /// Counts a replayed case; `same` is true if nothing differed.
+    pub fn count(&mut self, same: bool) {
+        self.run = self.run.saturating_add(1);
+        if !same {
+            self.differ = self.differ.saturating_add(1);
+        }
+    }
+}
+
+impl fmt::Display for Tally {
+    fn fmt<W: fmt::Write>(&self, f: &mut fmt::Formatter<W>) -> fmt::Result {
+        let Tally { run, differ } = *self;
+        write!(f, "cases: {run} run, {differ} differ")
+    }
 }

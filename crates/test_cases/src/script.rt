@@ -1,8 +1,7 @@
 //! The replay of one script.
 
 use crate::given::gives;
-use crate::lines::{other_lines, picture_lines, size_lines};
-use crate::text::bytes_of;
+use crate::text::{bytes_of, other_lines, picture_lines, size_lines};
 use anyhow::{Result, bail};
 use std::alloc::Global;
 use std::num::NonZeroU16;

@@ -7,23 +7,19 @@
 //! exit status is 1 if something differs.
 #![tactic(auto)]
 
-mod captures;
 mod follow;
 mod pace;
 mod picture;
-mod tally;
 mod viewers;
-mod visits;
 
 use anyhow::{Context, Result};
 use pace::Pace;
-use picture::Part;
+use picture::{Part, Tally};
 use std::num::NonZeroU16;
 use std::process::ExitCode;
 use std::rt::{Env, Files};
 use std::{env, fs};
-use tally::Tally;
-use visits::Visits;
+use viewers::Visits;
 
 fn size(word: &str) -> Result<NonZeroU16> {
     let number = word.parse::<u16>().context("reading a size")?;
@@ -40,7 +36,7 @@ fn follow_file<R: AllocGlobal + Env + Files>(rt: &R) -> Result<(Tally, Visits)> 
     let bytes = fs::read(rt, file.as_str())?;
     let (size, pace, bytes) = ((rows, cols), Pace::new(seed), bytes.as_slice());
     let mut tally = follow::follow(rt.alloc(), size, pace, bytes)?;
-    if tally.differs.is_none() && !captures::are_one(rt.alloc(), size, bytes)? {
+    if tally.differs.is_none() && !follow::are_one(rt.alloc(), size, bytes)? {
         tally.differs = Some(Part::Captures);
     }
     Ok((tally, viewers::follow(rt.alloc(), size, pace, bytes)?))

@@ -3,17 +3,11 @@
 #![tactic(auto)]
 
 #[cfg(test)]
-mod asking_tests;
-#[cfg(test)]
 mod caller_tests;
-#[cfg(test)]
-mod healing_tests;
 #[cfg(test)]
 mod mirror_tests;
 #[cfg(test)]
 mod numbers;
-#[cfg(test)]
-mod sending_tests;
 #[cfg(test)]
 mod streams;
 #[cfg(test)]

@@ -9,27 +9,20 @@
 //! there from time to time.
 #![tactic(auto)]
 
-mod bytes;
-mod dice;
+mod checks;
 mod digest;
-mod output;
 mod part;
-mod pieces;
+mod random;
 mod reader;
 mod round;
-mod shown;
-mod soundness;
-mod steadiness;
-mod step;
-mod tally;
 
 use anyhow::{Context, Result};
-use dice::Dice;
+use part::Tally;
+use random::Dice;
 use std::env;
 use std::io::IsTerminal;
 use std::process::ExitCode;
 use std::rt::Env;
-use tally::Tally;
 
 /// The number of steps between two lines that report the progress.
 const PACE: u64 = 100_000;

@@ -1,10 +1,9 @@
 //! Tests that the copy of a screen is equal to the original at first and independent of it.
 
+use crate::examples::Step::{Text, View};
+use crate::examples::{Pieces, Step, read_keeping, shown, taken};
 use std::alloc::Global;
 use std::test::Fail;
-use test_aids::seen::{read_keeping, shown};
-use test_aids::steps::Step::{Text, View};
-use test_aids::steps::{Pieces, Step, taken};
 use vt_notes::Notes;
 use vt100::{Parser, Screen};
 

@@ -1,39 +1,42 @@
-//! Tests of the terminal through its public interface, by worked examples of the effect of bytes on
-//! a screen, and of callbacks that implement each method or change the screen. Most examples are
+//! Worked examples of a terminal, through the public interfaces of its crates: the effect of bytes
+//! on a screen, callbacks, the output of a screen, which a second terminal parses, and the parts of
+//! a terminal (cells, escape sequences, the basic text of rows, and the scanner). Most examples are
 //! also run with their bytes split at every position.
 #![tactic(auto)]
 
 #[cfg(test)]
-mod calls_tests;
+mod callbacks;
 #[cfg(test)]
-mod changing;
+mod callbacks_tests;
 #[cfg(test)]
-mod changing_tests;
+mod capture_tests;
+#[cfg(test)]
+mod cell_tests;
 #[cfg(test)]
 mod copies_tests;
 #[cfg(test)]
-mod counter;
+mod difference_tests;
 #[cfg(test)]
-mod counter_tests;
+mod effects_tests;
 #[cfg(test)]
-mod lending_tests;
-#[cfg(test)]
-mod limits_tests;
-#[cfg(test)]
-mod modes_tests;
-#[cfg(test)]
-mod notes_tests;
+mod examples;
 #[cfg(test)]
 mod pages_tests;
 #[cfg(test)]
-mod parser_tests;
-#[cfg(test)]
 mod printing_tests;
 #[cfg(test)]
-mod rendition_tests;
+mod readback;
 #[cfg(test)]
-mod scrolling_tests;
+mod redraw_tests;
 #[cfg(test)]
-mod sizes_tests;
+mod repeated_tests;
 #[cfg(test)]
-mod wanting_tests;
+mod scanner_tests;
+#[cfg(test)]
+mod screen_capture_tests;
+#[cfg(test)]
+mod sequence_tests;
+#[cfg(test)]
+mod steady_tests;
+#[cfg(test)]
+mod text_tests;

@@ -1,8 +1,12 @@
-//! Tests of printing: wraps, wide characters, combining characters, and changes of width by U+FE0F.
+//! Tests of printing (wraps, wide characters, combining characters, and changes of width by U+FE0F), of
+//! the parser itself, and of very long inputs and very large scrollback capacities.
 
+use crate::examples::Step::{self, Resize, ResizeParser, Text, View};
+use crate::examples::{expect_at_each_cut, read, read_keeping, size_of};
+use std::io::Write;
 use std::test::Fail;
-use test_aids::seen::expect_at_each_cut;
-use test_aids::steps::Step::Text;
+use vt_notes::Note;
+use vt100::{Color, Parser};
 
 #[rattlefmt::skip]
 const PRINTED: [((u16, u16), &str, &str); 74] = [
@@ -149,4 +153,149 @@ fn wraps_the_longest_row(rt: HostRuntime) -> Result<(), Fail> {
     wanted.push_str("61 0\n")?;
     let steps = [Text("\x1b[1;65535Hab")];
     expect_at_each_cut(rt.alloc(), (1, 65535), 0, &steps, wanted.as_str())
+}
+
+#[test]
+fn colours_a_cell(rt: HostRuntime) -> Result<(), Fail> {
+    let parser = read(rt.alloc(), (24, 80), &[b"this text is \x1b[31mRED\x1b[m"])?;
+    let color = parser.screen().cell(0, 13).map(|cell| cell.fgcolor());
+    assert_eq!(rt; color, Some(Color::Idx(1)));
+    Ok(())
+}
+
+#[test]
+fn has_a_default_size(rt: HostRuntime) -> Result<(), Fail> {
+    assert!(rt; Parser::DEFAULT_ROWS == 24 && Parser::DEFAULT_COLS == 80);
+    let parser = Parser::default(rt.alloc())?;
+    let (rows, cols) = parser.screen().size();
+    assert!(rt; rows.get() == 24 && cols.get() == 80);
+    Ok(())
+}
+
+#[test]
+fn is_a_writer(rt: HostRuntime) -> Result<(), Fail> {
+    let (rows, cols) = size_of((2, 4))?;
+    let mut parser = Parser::new(rt.alloc(), rows, cols, 0)?;
+    assert_eq!(rt; parser.write(b"ab")?, 2);
+    parser.flush()?;
+    let screen = parser.screen();
+    for (col, letter) in [(0, "a"), (1, "b")] {
+        let cell = screen.cell(0, col).ok_or("no cell")?;
+        assert_eq!(rt; cell.contents(), letter);
+    }
+    assert_eq!(rt; screen.cursor_position(), (0, 2));
+    Ok(())
+}
+
+/// Test cases: input after the introducer `\e]`, and the number of bytes that are pending after the
+/// input.
+const COMMANDS: &[(&[u8], usize)] = &[
+    (b"", 0),
+    (b"2;title", 7),
+    (b"2;ti\rtl\ne", 7),
+    (b"2;\xC3\xA4\x9C", 5),
+    (b"2;title\x07", 0),
+    (b"2;title\x18", 0),
+    (b"2;title\x1B", 0),
+    (b"2;title\x1B\\\x1BPtitle", 0),
+    (b"2;title\x1B\\\x1B[1;2", 0),
+    (b"2;title\x1B\\\xE2\x8C", 0),
+    (b"2;title\x1B\\\x1B]1", 1),
+];
+
+#[test]
+fn counts_the_bytes_of_an_unfinished_command(rt: HostRuntime) -> Result<(), Fail> {
+    for (bytes, pending) in COMMANDS {
+        let parser = read(rt.alloc(), (2, 4), &[b"\x1B]", bytes])?;
+        assert_eq!(rt; parser.pending_len(), *pending, "{bytes:?}");
+    }
+    let parser = read(rt.alloc(), (2, 4), &[b"title\x1B\\"])?;
+    assert_eq!(rt; parser.pending_len(), 0);
+    Ok(())
+}
+
+/// Test cases: a title, and the number of bytes that are pending after `2;` and the title. The
+/// buffer of the second title is freed after the command.
+const TITLES: &[(&[u8], usize)] = &[(&[b'a'; 1000], 1002), (&[b'a'; 5000], 5002)];
+
+#[test]
+fn ends_a_long_command(rt: HostRuntime) -> Result<(), Fail> {
+    for (title, pending) in TITLES {
+        for end in [&b"\x07"[..], b"\x18"] {
+            let mut parser = read(rt.alloc(), (2, 4), &[b"\x1B]2;", title])?;
+            assert_eq!(rt; parser.pending_len(), *pending);
+            parser.process(end)?;
+            assert_eq!(rt; parser.pending_len(), 0);
+            parser.process(b"\x1B]2;b")?;
+            assert_eq!(rt; parser.pending_len(), 3);
+        }
+    }
+    Ok(())
+}
+
+/// The largest scrollback capacities, each too large for all its rows to fit in memory.
+const CAPACITIES: [usize; 4] = [
+    usize::MAX,
+    usize::MAX - 1,
+    usize::MAX / 2 + 1,
+    usize::MAX / 2,
+];
+
+/// Test cases: a size, the steps, and the display after the steps. The display is the same for all
+/// of [`CAPACITIES`], because every row is kept.
+#[rattlefmt::skip]
+const KEPT: [((u16, u16), &[Step], &str); 8] = [
+    ((2, 4), &[Text("a\r\nb\r\nc")], "0:b 1:c @1,1 kept 1\n"),
+    ((2, 4), &[Text("a\r\nb\r\nc"), View(usize::MAX)], "0:a 1:b @1,1 kept 1 in view 1\n"),
+    ((2, 1), &[Text("z\r\na\r\nb\x1b[65535S")], "@1,1 kept 3\n"),
+    ((1, 2), &[Text("a\x1b[5b")], "0:aa @0,2 kept 2\n"),
+    ((3, 4), &[Text("a\r\nb\r\nc"), ResizeParser(1, 4)], "0:c @0,1 kept 2\n"),
+    ((3, 4), &[Text("a\r\nb\r\nc"), Resize(1, 4), Resize(3, 4)], "0:a 1:b 2:c @2,1\n"),
+    ((1, 1), &[Text("abc"), View(2), Text("d")], "0:a @0,1 kept 3 in view 3\n"),
+    ((1, 4), &[Text("a\r\nb\r\n\x1b[3J")], "@0,0\nscroll 61 0\nscroll 62 0\n"),
+];
+
+#[test]
+fn keeps_rows_without_a_limit(rt: HostRuntime) -> Result<(), Fail> {
+    for capacity in &CAPACITIES {
+        for (size, steps, wanted) in &KEPT {
+            expect_at_each_cut(rt.alloc(), *size, *capacity, steps, wanted)?;
+        }
+    }
+    Ok(())
+}
+
+#[test]
+fn keeps_many_rows(rt: HostRuntime) -> Result<(), Fail> {
+    let mut text = String::new(rt.alloc());
+    for _ in 0..5000 {
+        text.push_str("x\r\n")?;
+    }
+    let parser = read_keeping(rt.alloc(), (1, 4), usize::MAX, &[text.as_bytes()])?;
+    assert_eq!(rt; parser.screen().scrollback_len(), 5000);
+    assert_eq!(rt; parser.screen().scrollback_capacity(), usize::MAX);
+    Ok(())
+}
+
+#[test]
+fn takes_a_title_of_a_mebibyte(rt: HostRuntime) -> Result<(), Fail> {
+    let mut text = String::new(rt.alloc());
+    text.push_str("\x1b]2;")?;
+    for _ in 0..1_048_576 {
+        text.push('x')?;
+    }
+    text.push('\x07')?;
+    let parser = read(rt.alloc(), (24, 80), &[text.as_bytes()])?;
+    assert!(rt; is_long_title(parser.callbacks().calls()));
+    Ok(())
+}
+
+/// Returns whether `calls` consists of one call, with a title of 2^20 letters `x`.
+fn is_long_title(calls: &[Note]) -> bool {
+    match calls {
+        [Note::SetWindowTitle(title)] => {
+            title.len() == 1_048_576 && title.iter().all(|byte| *byte == b'x')
+        }
+        _ => false,
+    }
 }

@@ -16,14 +16,19 @@
 //!
 //! `tool_bench texts ROWS COLS CAPACITY EVERY FILE` prints the same diffs, redraws of the same
 //! screens, and what these screens display: see `bench/tmux`.
+//!
+//! `tool_bench mirror WHAT CALL ROWS COLS CAPACITY VIEWERS EVERY FILE` feeds FILE to a mirror with
+//! many viewers: see `bench/mirrors`.
 #![tactic(auto)]
 
 mod lengths;
+mod mirrors;
 mod texts;
 mod work;
 
 use anyhow::{Context, Result, bail};
 use lengths::{Lengths, Reading};
+use mirrors::measure_mirror;
 use std::alloc::Global;
 use std::num::NonZeroU16;
 use std::rt::{Env, Files};
@@ -56,6 +61,11 @@ fn run<R: AllocGlobal + Env + Files + Print>(rt: &R) -> Result<()> {
 
 /// Makes the measurement that the command-line arguments specify, and prints its result.
 fn measure<R: AllocGlobal + Files + Print>(rt: &R, words: &[String]) -> Result<()> {
+    if let Some((what, rest)) = words.split_first()
+        && what.as_str() == "mirror"
+    {
+        return measure_mirror(rt, rest);
+    }
     let [what, rows, cols, capacity, times, file] = words else {
         bail!("usage: tool_bench WHAT ROWS COLS CAPACITY TIMES FILE");
     };

@@ -42,9 +42,10 @@ fn show<R: AllocGlobal + Print>(rt: &R, screen: &Screen, prev: &Screen) -> Resul
     Ok(())
 }
 
-/// Returns the display of a screen: for each row its glyphs, NUL for a blank, and a newline.
-/// Attributes precede the first cell of a row and each change, as `ESC [ FOREGROUND BACKGROUND
-/// MARKS m`.
+/// Returns the display of a screen: for each row its cells and a newline. A cell is its glyph, NUL
+/// for a blank, or nothing for a continuation cell, and ends with U+001F. Attributes precede the
+/// first cell of a row and each change, as `ESC [ FOREGROUND BACKGROUND MARKS m`; continuation
+/// cells have those of their wide characters.
 fn shown(alloc: Global, screen: &Screen) -> Result<String, AllocError> {
     let (rows, cols) = screen.size();
     let mut text = String::new(alloc);
@@ -52,8 +53,11 @@ fn shown(alloc: Global, screen: &Screen) -> Result<String, AllocError> {
         let mut before = None;
         for col in 0..cols.get() {
             if let Some(cell) = screen.cell(row, col) {
-                write_cell(&mut text, cell, before)?;
-                before = Some(cell);
+                if !cell.is_wide_continuation() {
+                    write_cell(&mut text, cell, before)?;
+                    before = Some(cell);
+                }
+                text.push_str("\x1f")?;
             }
         }
         text.push_str("\n")?;
@@ -61,12 +65,9 @@ fn shown(alloc: Global, screen: &Screen) -> Result<String, AllocError> {
     Ok(text)
 }
 
-/// Appends a cell, preceded by its attributes if they differ from those of `before`. Appends
-/// nothing for a continuation cell.
+/// Appends a cell that is no continuation cell, preceded by its attributes if they differ from
+/// those of `before`.
 fn write_cell(text: &mut String, cell: &Cell, before: Option<&Cell>) -> Result<(), AllocError> {
-    if cell.is_wide_continuation() {
-        return Ok(());
-    }
     if before.is_none_or(|before| looks(before) != looks(cell)) {
         let (ink, paper, marks) = looks(cell);
         text.push_str("\x1b[")?;
