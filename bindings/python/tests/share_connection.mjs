@@ -1,0 +1,84 @@
+// Tests the connection of the page of vt100.share with a WebSocket that the test controls.
+
+import assert from "node:assert/strict";
+import { Connection } from "../vt100/share/page/connection.js";
+
+const sockets = [], timers = [], calls = [];
+globalThis.setTimeout = (run, delay) => timers.push({ run, delay });
+globalThis.WebSocket = class extends EventTarget {
+  static OPEN = 1;
+  readyState = 0;
+  sent = [];
+
+  constructor(url) {
+    super();
+    this.url = url;
+    sockets.push(this);
+  }
+
+  send(data) {
+    this.sent.push(Buffer.from(data).toString("latin1"));
+  }
+
+  open() {
+    this.readyState = 1;
+    this.dispatchEvent(new Event("open"));
+  }
+
+  receive(text) {
+    const data = Uint8Array.from(Buffer.from(text, "latin1")).buffer;
+    this.dispatchEvent(Object.assign(new Event("message"), { data }));
+  }
+
+  close(code, reason = "") {
+    this.readyState = 3;
+    this.dispatchEvent(Object.assign(new Event("close"), { code, reason }));
+  }
+};
+
+const text = (bytes) => Buffer.from(bytes).toString("latin1");
+const connection = new Connection("ws://host/viewer", "token", {
+  redraw: (rows, cols, bytes) => calls.push(`redraw ${rows} ${cols} ${text(bytes)}`),
+  update: (bytes) => calls.push(`update ${bytes.length}`),
+  title: (title) => calls.push(`title ${title}`),
+  mayWrite: (isAllowed) => calls.push(`write ${isAllowed}`),
+  status: (status) => calls.push(`status ${status}`),
+});
+
+// The token is the first message, and updates are acknowledged after 4096 bytes.
+const [first] = sockets;
+connection.type("lost");
+first.open();
+first.receive("W1");
+first.receive("F\0\x18\0\x50abc");
+first.receive("Ta title");
+first.receive("D" + "x".repeat(4000));
+assert.deepEqual(first.sent, ["ttoken"]);
+first.receive("D" + "x".repeat(100));
+connection.type("é");
+assert.deepEqual(first.sent, ["ttoken", "a\0\0\x10\x0e", "i\xc3\xa9"]); // 8 + 4001 + 101 bytes
+assert.deepEqual(calls.splice(0),
+  ["write true", "status ", "redraw 24 80 abc", "title a title", "update 4000", "update 100"]);
+
+// A lost connection is replaced, later and later; the count of bytes begins anew.
+first.close(1006);
+assert.match(calls.pop(), /^status Not connected/);
+timers.pop().run();
+sockets[1].close(1006);
+assert.deepEqual(timers.map(({ delay }) => delay), [500]);
+timers.pop().run();
+sockets[2].open();
+sockets[2].receive("W0");
+sockets[2].receive("F\0\x01\0\x01" + "y".repeat(4091));
+assert.deepEqual(sockets[2].sent, ["ttoken", "a\0\0\x10\0"]);
+
+// A viewer that was cut off stays away, and so does one whose program has ended.
+calls.splice(0);
+sockets[2].close(1008, "the token is wrong");
+assert.deepEqual(calls.splice(0), ["status The server has ended the connection: the token is wrong."]);
+assert.equal(timers.length, 0);
+new Connection("ws://host/viewer", "token", { status: (status) => calls.push(status) });
+sockets[3].open();
+sockets[3].receive("X7");
+sockets[3].close(1000);
+assert.deepEqual([calls, timers], [["The program has ended with status 7."], []]);

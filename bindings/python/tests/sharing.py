@@ -1,0 +1,205 @@
+"""A server of vt100.share within the tests, and its viewers."""
+
+import asyncio
+import json
+import os
+import random
+import struct
+import unittest
+
+import vt100
+from vt100.share._program import Program
+from vt100.share._server import Server
+from vt100.share._share import Share
+from vt100.share._site import Site
+from vt100.share._viewers import Tokens
+
+try:
+    from websockets import client as sockets
+    from websockets.uri import parse_uri
+except ImportError:
+    sockets = None
+
+needs_websockets = unittest.skipIf(sockets is None, "the package websockets is not installed")
+
+SESSION = os.path.join(
+    os.path.dirname(__file__), *[os.pardir] * 3, "crates", "example_cast", "stdin"
+)
+PAGE = {"/": ("text/html", b"page")}
+
+
+def recorded():
+    """Returns the output of a recorded session."""
+    with open(SESSION, encoding="utf-8") as file:
+        next(file)
+        events = [json.loads(line) for line in file if line.startswith("[")]
+    return "".join(text for _, kind, text in events if kind == "o").encode()
+
+
+def noise(seed, count=20000):
+    """Returns random output: text, wide characters, controls and sequences."""
+    rng = random.Random(seed)
+    parts = []
+    for _ in range(count // 8):
+        number = rng.randrange(30)
+        parts.append(
+            rng.choice(
+                (
+                    "text ", "\r\n", "\u4e2d", "e\u0301", "\t", "\u2764\ufe0f",
+                    f"\x1b[{number};{number}H", f"\x1b[{rng.randrange(50)}m", f"\x1b[{number}L",
+                    f"\x1b[{number}M", "\x1b[J", "\x1b[K", f"\x1b[{number}S", f"\x1b[{number}P",
+                    "\x1b[3;9r", "\x1b[r", "\x1b[?1h", "\x1b[?1l", "\x1b[?2004h", "\x1b]2;t\x07",
+                    "\x1b[?1049h", "\x1b[?1049l", "\x1b[?25l", "\x1b[?25h", "\x1bM", "\x1b[6n",
+                )
+            )
+        )
+    return "".join(parts).encode()
+
+
+class Terminal:
+    """The terminal of a viewer."""
+
+    def __init__(self):
+        self.parser = self.title = self.status = self.may_write = None
+        self.read = self.redraws = self.updates = 0
+
+    def take(self, message):
+        kind = message[:1]
+        if kind == b"F":
+            self.parser = vt100.Parser(*struct.unpack_from(">HH", message, 1))
+            self.parser.process(message[5:])
+            self.redraws += 1
+        elif kind == b"D":
+            self.parser.process(message[1:])
+            self.updates += 1
+        elif kind == b"T":
+            self.title = message[1:].decode()
+        elif kind == b"X":
+            self.status = int(message[1:])
+        else:
+            self.may_write = {b"W0": False, b"W1": True}[message]
+        if kind in b"FD":
+            self.read += len(message)
+
+
+class Closed(Exception):
+    """Raised when the server has ended a connection; `args` has the code, if there was one."""
+
+
+class Client(Terminal):
+    """A viewer on a WebSocket."""
+
+    writers = []  # those of all clients, which `Shared` closes
+
+    def __init__(self, port, origin=None, host=None, path="/viewer"):
+        super().__init__()
+        uri = f"ws://127.0.0.1:{port}{path}"
+        make = getattr(sockets, "ClientProtocol", None) or sockets.ClientConnection
+        self.protocol = make(parse_uri(uri), origin=origin)
+        self.port, self.host = port, host
+        self.messages = []
+        self.acknowledges = True
+
+    async def open(self, token=None):
+        self.reader, self.writer = await asyncio.open_connection("127.0.0.1", self.port)
+        self.writers.append(self.writer)
+        request = self.protocol.connect()
+        if self.host is not None:
+            del request.headers["Host"]
+            request.headers["Host"] = self.host
+        self.protocol.send_request(request)
+        await self._flush()
+        while self.protocol.state.name == "CONNECTING":
+            await self._receive()
+        if token is not None:
+            await self.send(b"t" + token.encode())
+        return self
+
+    async def _flush(self):
+        for data in self.protocol.data_to_send():
+            if data:
+                self.writer.write(data)
+        try:
+            await self.writer.drain()
+        except ConnectionError:
+            raise Closed() from None
+
+    async def _receive(self):
+        try:
+            data = await asyncio.wait_for(self.reader.read(65536), 10)
+        except ConnectionError:
+            data = b""
+        if not data:
+            raise Closed()
+        self.protocol.receive_data(data)
+        for event in self.protocol.events_received():
+            if not hasattr(event, "opcode"):
+                if event.status_code != 101:
+                    raise Closed(event.status_code)
+            elif event.opcode.name == "BINARY":
+                self.messages.append(bytes(event.data))
+            elif event.opcode.name == "CLOSE":
+                await self._flush()
+                raise Closed(int.from_bytes(event.data[:2], "big"))
+        await self._flush()
+
+    async def send(self, message):
+        self.protocol.send_binary(message)
+        await self._flush()
+
+    async def next(self):
+        """Reads the next message, and acknowledges it."""
+        while not self.messages:
+            await self._receive()
+        before = self.read
+        self.take(self.messages.pop(0))
+        if self.acknowledges and self.read != before:
+            await self.acknowledge()
+
+    async def acknowledge(self):
+        await self.send(b"a" + struct.pack(">I", self.read & 0xFFFFFFFF))
+
+    async def until(self, text):
+        while self.parser is None or text not in self.parser.contents():
+            await self.next()
+
+    async def until_end(self):
+        """Reads messages until the program has ended."""
+        while self.status is None:
+            await self.next()
+        return self
+
+    def close(self):
+        self.writer.close()
+
+
+class Shared:
+    """A program and its server, within this process."""
+
+    def __init__(self, command, size=(24, 80), viewers=100):
+        self.command, self.size, self.viewers = command, size, viewers
+
+    async def __aenter__(self):
+        self.tokens = Tokens(True)
+        self.server = Server(Site(PAGE, "127.0.0.1", []), self.tokens, self.viewers)
+        self.port = await self.server.start("127.0.0.1", 0)
+        self.program = Program(self.command, *self.size)
+        self.share = self.server.share = Share(self.program, *self.size)
+        return self
+
+    async def __aexit__(self, *_):
+        loop = asyncio.get_running_loop()
+        loop.remove_reader(self.program.file)
+        loop.remove_writer(self.program.file)
+        self.program.close()
+        while Client.writers:
+            Client.writers.pop().close()
+        await self.server.close()
+
+    async def viewer(self, token=None, **how):
+        return await Client(self.port, **how).open(self.tokens.read if token is None else token)
+
+    @property
+    def contents(self):
+        """The redraw and the input modes of the server's screen."""
+        return self.share.cohort.parser.state_formatted()

@@ -1,0 +1,67 @@
+"""The messages between server and viewers. Each is a binary message of a WebSocket whose first byte
+is its kind.
+
+From the server to a viewer:
+
+    F rows(2) cols(2) text   a new terminal of this size reads the text
+    D text                   the terminal reads the text
+    W 0 or 1                 whether the viewer may type; the first message
+    T text                   the title of the window
+    X digits                 the program has ended with this status
+
+From a viewer to the server:
+
+    t token                  the first message: what the address has in its fragment
+    a count(4)               how many bytes of messages F and D the viewer has read, modulo 2**32
+    i text                   what was typed
+
+Numbers are big-endian.
+"""
+
+from __future__ import annotations
+
+import struct
+
+#: The longest message that a viewer may send.
+MAX_RECEIVED = 16384
+
+#: The longest title that is sent, in bytes.
+MAX_TITLE = 512
+
+_SIZE = struct.Struct(">HH")
+_COUNT = struct.Struct(">I")
+COUNT_MODULUS = 1 << 32
+
+
+class Nonsense(Exception):
+    """Raised for a message that no page of this server sends."""
+
+
+def redraw(rows: int, cols: int, text: bytes) -> bytes:
+    return b"F" + _SIZE.pack(rows, cols) + text
+
+
+def update(text: bytes) -> bytes:
+    return b"D" + text
+
+
+def may_write(is_allowed: bool) -> bytes:
+    return b"W1" if is_allowed else b"W0"
+
+
+def title(text: bytes) -> bytes:
+    """Returns the message for a title, without controls and malformed UTF-8."""
+    printable = "".join(filter(str.isprintable, text[:MAX_TITLE].decode(errors="replace")))
+    return b"T" + printable.encode()
+
+
+def ended(status: int) -> bytes:
+    return b"X%d" % status
+
+
+def count_of(message: bytes) -> int:
+    """Returns the number in an acknowledgement."""
+    if len(message) != 1 + _COUNT.size:
+        raise Nonsense("an acknowledgement has 4 bytes")
+    number: int = _COUNT.unpack_from(message, 1)[0]
+    return number

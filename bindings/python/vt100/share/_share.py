@@ -1,0 +1,239 @@
+"""What is shared: the program, its screen, and when viewers get updates."""
+
+from __future__ import annotations
+
+import asyncio
+from typing import Callable, Dict, Iterator, List, Optional
+
+from ..replies import Replies
+from ..screen import Screen
+from . import _messages as messages
+from ._cohort import Cohort
+from ._program import Program
+from ._recording import Recording
+from ._viewers import Viewer
+
+#: The shortest time between two rounds of updates, in seconds.
+GAP = 1 / 30
+
+#: How many viewers get their update before the event loop has its turn.
+SLICE = 500
+
+#: The number of bytes of input that may wait for the program to read them.
+MAX_UNSENT = 1 << 18
+
+#: The number of bytes of an unfinished command after which it is cancelled.
+MAX_COMMAND = 1 << 20
+_CANCEL = b"\x18"
+
+#: How often output is read after the program has ended: a process that it has left may write on.
+_MAX_LAST_READS = 256
+
+#: How long to wait for viewers that do not get on, and for all, until they have the last update, in
+#: seconds.
+_FAREWELL, _LONGEST_FAREWELL = 2.0, 15.0
+
+
+class _Queries(Replies):
+    """Replies to the program, and notes the title of the window."""
+
+    def __init__(self, send: Callable[[bytes], object]) -> None:
+        super().__init__(send)
+        self.title = b""
+        self.title_number = 0
+
+    def set_window_title(self, screen: Screen, title: bytes) -> None:
+        if title[: messages.MAX_TITLE] != self.title:
+            self.title = title[: messages.MAX_TITLE]
+            self.title_number += 1
+
+    def copy_to_clipboard(self, screen: Screen, kind: bytes, data: bytes) -> None:
+        """Ignores the data: a program could store any amount, under any number of names."""
+
+
+class Share:
+    """A program and its viewers.
+
+    Output is parsed at once. It becomes visible in rounds: the first one begins at once, and the
+    next one no sooner than `GAP` seconds later. A round makes the present screen a version, and
+    sends each viewer what leads to it, except to those that have no room for more: they get it when
+    they have.
+    """
+
+    def __init__(
+        self, program: Program, rows: int, cols: int, recording: Optional[Recording] = None
+    ) -> None:
+        self.ended = asyncio.Event()
+        self.status: Optional[int] = None
+        self._loop = asyncio.get_running_loop()
+        self._program = program
+        self._queries = _Queries(self.type)
+        self.cohort = Cohort(rows, cols, self._queries)
+        self._recording = recording
+        self._viewers: Dict[Viewer, None] = {}
+        self._typists: Dict[Viewer, None] = {}
+        self._listeners: List[Callable[[], None]] = []
+        self._last = 0.0
+        self._is_scheduled = False
+        self._is_final = False
+        self._round: Optional[Iterator[Viewer]] = None
+        self._loop.add_reader(program.file, self._read)
+
+    # ---- viewers
+
+    @property
+    def viewer_count(self) -> int:
+        return len(self._viewers)
+
+    def listen(self, listener: Callable[[], None]) -> None:
+        """Has a function called in each round, after the new version has begun."""
+        self._listeners.append(listener)
+
+    def add(self, viewer: Viewer) -> None:
+        """Adds a viewer, which gets the present version."""
+        self._viewers[viewer] = None
+        viewer.send(messages.may_write(viewer.may_write))
+        self.offer(viewer)
+
+    def remove(self, viewer: Viewer) -> None:
+        self._viewers.pop(viewer, None)
+        self._typists.pop(viewer, None)
+
+    def offer(self, viewer: Viewer, is_forced: bool = False) -> None:
+        """Sends a viewer what it has not got, if it has room."""
+        if not (viewer.has_room or is_forced):
+            viewer.is_behind = True
+            return
+        viewer.is_behind = False
+        if viewer.version != self.cohort.version:
+            viewer.send_screen(self.cohort.message(viewer.version), self.cohort.version)
+        if viewer.title_number != self._queries.title_number:
+            viewer.title_number = self._queries.title_number
+            viewer.send(messages.title(self._queries.title))
+        if self._is_final and not viewer.has_end and self.status is not None:
+            viewer.has_end = True
+            viewer.send(messages.ended(self.status))
+
+    def receive(self, viewer: Viewer, message: bytes) -> None:
+        """Takes a message of a viewer. Raises `Nonsense` if the viewer must be cut off."""
+        typed = viewer.receive(message)
+        if typed is not None:
+            self._typists[viewer] = None
+            self.type(typed)
+        elif viewer.is_behind:
+            self.offer(viewer)
+
+    # ---- the program
+
+    def type(self, data: bytes) -> None:
+        """Sends input to the program. Drops it if the program has not read much of the earlier
+        input."""
+        if self._program.file < 0 or self._program.unsent_len + len(data) > MAX_UNSENT:
+            return
+        self._program.type(data)
+        self._write()
+
+    def _write(self) -> None:
+        self._program.flush()
+        if self._program.unsent_len:
+            self._loop.add_writer(self._program.file, self._write)
+        else:
+            self._loop.remove_writer(self._program.file)
+
+    def _read(self) -> None:
+        data = self._program.read()
+        if data is None:
+            return
+        if not data:
+            self._loop.remove_reader(self._program.file)
+            self._loop.create_task(self._wait_for_status())
+            return
+        self._process(data)
+
+    def _process(self, data: bytes) -> None:
+        self.cohort.process(data)
+        if self.cohort.parser.pending_len > MAX_COMMAND:
+            self.cohort.process(_CANCEL)
+        if self._recording is not None:
+            self._recording.output(data)
+        if self.cohort.is_full:
+            self._loop.remove_reader(self._program.file)
+        self._schedule()
+
+    def check_status(self) -> None:
+        """Ends the share if the program has ended, even if a process that it has left keeps the
+        terminal open."""
+        if self._program.file < 0 or self._program.status is None or self.status is not None:
+            return
+        for _ in range(_MAX_LAST_READS):
+            data = self._program.read()
+            if not data:
+                break
+            self._process(data)
+        self._finish(self._program.status)
+
+    async def _wait_for_status(self) -> None:
+        """Waits for a program that has closed its terminal."""
+        while self._program.status is None:
+            await asyncio.sleep(0.05)
+        self._finish(self._program.status)
+
+    def _finish(self, status: int) -> None:
+        if self.status is None:
+            self.status = status
+            self._loop.remove_reader(self._program.file)
+            self._loop.remove_writer(self._program.file)
+            self._schedule()
+            self._loop.create_task(self._farewell())
+
+    async def _farewell(self) -> None:
+        """Waits until all viewers have what there is to send, or for some seconds."""
+        last, end, before = self._loop.time() + _LONGEST_FAREWELL, 0.0, -1
+        while not self._is_final or self._round is not None or self._has_waiting_viewer():
+            read = sum(viewer.read_len for viewer in self._viewers)
+            if read != before:
+                end, before = self._loop.time() + _FAREWELL, read
+            if self._loop.time() >= min(end, last):
+                break
+            await asyncio.sleep(0.03)
+        for viewer in list(self._viewers):
+            if not viewer.has_end:
+                self.offer(viewer, is_forced=True)
+        self.ended.set()
+
+    def _has_waiting_viewer(self) -> bool:
+        return any(not viewer.has_end or not viewer.is_drained for viewer in self._viewers)
+
+    # ---- rounds
+
+    def _schedule(self) -> None:
+        if self._round is None and not self._is_scheduled:
+            self._is_scheduled = True
+            self._loop.call_later(max(0.0, self._last + GAP - self._loop.time()), self._begin)
+
+    def _begin(self) -> None:
+        self._is_scheduled = False
+        self._last = self._loop.time()
+        self._is_final = self.status is not None
+        was_full = self.cohort.is_full
+        self.cohort.advance()
+        if was_full and self.status is None:
+            self._loop.add_reader(self._program.file, self._read)
+        for listener in self._listeners:
+            listener()
+        # Who types is served first.
+        self._round = iter([*self._typists, *(v for v in self._viewers if v not in self._typists)])
+        self._resume()
+
+    def _resume(self) -> None:
+        """Serves the next viewers of the round."""
+        assert self._round is not None
+        for count, viewer in enumerate(self._round, 1):
+            if viewer in self._viewers:
+                self.offer(viewer)
+            if count == SLICE:
+                self._loop.call_soon(self._resume)
+                return
+        self._round = None
+        if self.cohort.has_changed or self._is_final != (self.status is not None):
+            self._schedule()
