@@ -22,7 +22,7 @@ def _kept(name, has_screen=True):
 
 
 for _name in dir(vt100.Callbacks):
-    if not _name.startswith("_"):
+    if not _name.startswith("_") and _name != "on_scroll_row":
         setattr(Log, _name, _kept(_name, _name != "on_scroll"))
 
 

@@ -39,11 +39,12 @@ class Replay(unittest.TestCase):
         for line in lines:
             if line.split(" ")[0] not in (*recorded.STATE, "<", "prev", "unsteady"):
                 self.assertEqual(text_of(screen, prev, line), line, name)
-        plain, places = vt100._find.contents_with_places(
-            screen.buffer, [screen.row_wrapped(row) for row in range(screen.lines)]
-        )
-        self.assertEqual(plain, screen.contents(), name)
-        self.assertEqual(len(plain), len(places), name)
+        rows = screen.rows()
+        wrapped = [screen.row_wrapped(row) for row in range(screen.lines)]
+        self.assertEqual(vt100._find.contents_of(rows, wrapped)[0], screen.contents(), name)
+        for row, text in enumerate(rows):
+            columns = vt100._find.columns_of(screen._record(row, screen.columns))
+            self.assertEqual(len(columns), len(text) + 1, name)
 
     def replay_case(self, head, lines):
         name, rows, cols = head[0], int(head[1]), int(head[2])

@@ -1,6 +1,7 @@
 """Tests of conveniences of screens: cells in bulk, display, indexing, search, changes, equality."""
 
 import copy
+import random
 import re
 import unittest
 
@@ -82,7 +83,32 @@ class Display(unittest.TestCase):
         self.assertEqual([cell.display for cell in screen[0]], ["\u5b57", "", " ", " "])
 
 
+    def test_display_is_what_the_cells_display(self):
+        source = random.Random(2)
+        pieces = ["a", " ", "\u5b57", "e\u0301", "\r\n", "\x1b[1;3H", "\x1b[44m\x1b[K", "\x1b[5C", "\u2500"]
+        for _ in range(200):
+            screen = screen_of("".join(source.choice(pieces) for _ in range(40)), 4, 9, 5)
+            screen.set_scrollback(source.randrange(3))
+            cells = ["".join(cell.display for cell in row) for row in screen.buffer]
+            self.assertEqual(screen.display, cells)
+
+
 class Find(unittest.TestCase):
+    def test_places_are_those_of_the_cells(self):
+        source = random.Random(3)
+        pieces = ["a", "b", " ", "\u5b57", "e\u0301", "\r\n", "\x1b[1;3H", "\x1b[K", "\x1b[5C"]
+        for _ in range(200):
+            screen = screen_of("".join(source.choice(pieces) for _ in range(60)), 4, 9)
+            for text in ("a", "\u5b57", "e"):
+                places = [
+                    (row, col)
+                    for row in range(4)
+                    for col in range(9)
+                    if screen.cell(row, col).text.startswith(text)
+                ]
+                self.assertEqual(screen.find(text), places)
+            self.assertEqual(len(screen.find(re.compile("(?s)."))), len(screen.contents()))
+
     def test_places_of_a_text(self):
         screen = screen_of("one two\r\n two one\r\none", 3, 10)
         self.assertEqual(screen.find("one"), [(0, 0), (1, 5), (2, 0)])
@@ -232,7 +258,7 @@ class AsPythonObjects(unittest.TestCase):
         self.assertEqual(repr(parser.save()), "<vt100.Screen " + told)
         self.assertLess(len(repr(screen_of("x" * 5000, 80, 200))), 120)
         self.assertEqual(repr(vt100.Mirror()), "<vt100.Mirror>")
-        self.assertEqual(repr(parser.cursor), "Position(row=1, col=3)")
+        self.assertEqual(repr(parser.cursor), "Cursor(row=1, col=3, hidden=False)")
         self.assertEqual(repr(parser.size), "Size(rows=3, cols=10)")
 
     def test_a_class_of_ones_own(self):

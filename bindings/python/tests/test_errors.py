@@ -6,6 +6,7 @@ import gc
 import mmap
 import os
 import pickle
+import re
 import subprocess
 import sys
 import threading
@@ -114,6 +115,41 @@ class Integers(unittest.TestCase):
     def test_messages_name_the_argument(self):
         with self.assertRaisesRegex(ValueError, "cols must be from 1 to 65535, not 65616"):
             vt100.Parser(24, 65616)
+        mirror = vt100.Mirror()
+        for call, message in (
+            (lambda: self.parser.cells(5), "row must be from 0 to 4, not 5"),
+            (lambda: self.parser.row_wrapped(9), "row must be from 0 to 4, not 9"),
+            (lambda: self.parser.rows_formatted(20), "start must be .* from 0 to 19, not 20"),
+            (lambda: self.parser.contents_between(0, 30, 1, 3), "start_col must be .*, not 30"),
+            (lambda: mirror.update(7), "there is no viewer 7"),
+            (lambda: mirror.leave(7), "there is no viewer 7"),
+        ):
+            with self.assertRaisesRegex(ValueError, message):
+                call()
+        for place, message in (((0, 20), "column 20 of .* 20 columns"), (5, "row 5 of .* 5 rows")):
+            with self.assertRaisesRegex(IndexError, message):
+                self.parser[place]
+
+    def test_what_cannot_be_found_is_a_type_error(self):
+        for wrong, name in ((b"red", "bytes"), (re.compile(b"red"), "pattern of bytes"), (3, "int")):
+            with self.assertRaisesRegex(TypeError, f"must be a str .* not .*{name}"):
+                self.parser.find(wrong)
+
+    def test_a_misspelt_callback_is_a_type_error(self):
+        def method(self, *arguments):
+            pass
+
+        for name, meant in (
+            ("audible_bel", "audible_bell"),
+            ("unhandled_cs", "unhandled_csi"),
+            ("on_scrol", "on_scroll"),
+            ("set_title", "set_window_title"),
+            ("bell", "audible_bell"),
+            ("event_lost", "events_lost"),
+        ):
+            with self.assertRaisesRegex(TypeError, f"Wrong.{name} .*'{meant}'"):
+                type("Wrong", (vt100.Callbacks,), {name: method})
+        type("Right", (vt100.Callbacks,), {"note": method, "_on_scrol": method, "bell": 0})
 
 
 class Input(unittest.TestCase):
@@ -329,6 +365,11 @@ class Import(unittest.TestCase):
         major, minor = vt100.library_version.split(".")
         self.assertEqual("libvt100.so." + major, vt100._library.SONAME)
         self.assertTrue(minor.isdigit())
+
+    def test_the_version_of_the_package(self):
+        with open(os.path.join(PACKAGE, "vt100", "_version.py"), encoding="utf-8") as file:
+            self.assertIn(f'__version__ = "{vt100.__version__}"', file.read())
+        self.assertRegex(vt100.__version__, r"^\d+\.\d+\.\d+(\.post\d+)?$")
 
     def test_no_library_is_found(self):
         message = self.import_error(LD_LIBRARY_PATH="")

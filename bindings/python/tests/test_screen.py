@@ -294,6 +294,24 @@ class Texts(unittest.TestCase):
         second.process(first.input_mode_diff(second).encode())
         self.assertEqual((second.application_cursor, second.bracketed_paste), (True, False))
 
+    def test_the_setup_of_a_terminal(self):
+        screen = screen_of(b"ab\x1b[2;3r\x1b[?6h\x1b]2;title")
+        screen.process(vt100.TERMINAL_SETUP.encode() + b"cd\x1b[3;1H\n")
+        # The region is the whole page again: the first row scrolls off.
+        self.assertEqual((screen.contents(), screen.cursor), ("", (2, 0)))
+        stops = vt100.TERMINAL_SETUP.count("\x1b[8C\x1bH")
+        self.assertEqual((stops, vt100.TERMINAL_SETUP.count("\x1bH")), (40, 40))
+
+    def test_what_a_terminal_is_left_with(self):
+        modes = b"\x1b[1;31m\x1b[?25l\x1b=\x1b[?1;2004h\x1b[5 q"
+        for mouse in (b"9", b"1000", b"1002", b"1003"):
+            for encoding in (b"1005", b"1006"):
+                screen = screen_of(b"text" + modes + b"\x1b[?" + mouse + b";" + encoding + b"h")
+                screen.process(vt100.TERMINAL_RESTORE.encode())
+                fresh = screen_of(b"text")
+                self.assertEqual(screen.input_mode_diff(fresh), "")
+                self.assertEqual(screen.contents_diff(fresh), "")
+
 
 class Saved(unittest.TestCase):
     def test_screens_are_swapped(self):

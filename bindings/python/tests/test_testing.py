@@ -134,7 +134,7 @@ class Keys(unittest.TestCase):
         code = "import time, tty\ntty.setraw(0)\nprint(end='deaf')\ntime.sleep(1000)"
         with Terminal([*PYTHON, code], timeout=0.3) as terminal:
             terminal.wait_for("deaf", timeout=10)
-            with self.assertRaisesRegex(WaitFailed, "sending text: no time is left"):
+            with self.assertRaisesRegex(WaitFailed, "sending text: not done within 0.3 seconds"):
                 terminal.send(b"x" * 1000000)
 
     def test_much_input_and_output_at_once(self):
@@ -166,7 +166,7 @@ class Waits(unittest.TestCase):
         self.assertIsInstance(failed.exception, AssertionError)
         self.assertEqual(
             str(failed.exception),
-            "waiting for 'third': no time is left\n"
+            "waiting for 'third': not done within 0.5 seconds\n"
             "screen of 4x12, cursor in row 2, column 0:\n"
             "+------------+\n"
             "|first       |\n"
@@ -183,7 +183,7 @@ class Waits(unittest.TestCase):
 
         with Terminal([*PYTHON, "import sys; print('only'); sys.exit(4)"], timeout=60) as terminal:
             begin = time.monotonic()
-            with self.assertRaisesRegex(WaitFailed, "has_third: .*status 4(.|\n)*only"):
+            with self.assertRaisesRegex(WaitFailed, r"has_third \(test_testing.py, line \d+\): .*status 4(.|\n)*only"):
                 terminal.wait_for(has_third)
             self.assertLess(time.monotonic() - begin, 30)
             self.assertEqual(terminal.wait_for("only").contents(), "only")

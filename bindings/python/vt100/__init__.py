@@ -16,44 +16,65 @@ the system finds it. `library_version` is the version of its C interface. Rows a
 
 Invalid arguments, such as integers out of range, raise `ValueError`; failed allocations raise
 `MemoryError`; other failures in the library raise `Error`. The methods of one object may be called
-from several threads; calls wait for each other. `vt100.testing` runs programs in a terminal.
+from several threads; calls wait for each other, and a fork waits for the calls of other threads.
+`vt100.testing` runs programs in a terminal.
 """
 
+from . import capture
 from ._cells import (
     Attributes,
     Cell,
     Color,
+    Cursor,
     CursorStyle,
     MouseProtocolEncoding,
     MouseProtocolMode,
     Position,
     Size,
+    color_name,
 )
+from ._dirty import Dirty
+from ._history import History
 from ._library import Error, library_version
 from ._object import BytesLike
 from ._options import Repeat
+from ._terminal import TERMINAL_RESTORE, TERMINAL_SETUP
+from ._version import __version__
 from .callbacks import Callbacks
+from .capture import Capture, RowContents
 from .mirror import Mirror, Update
 from .parser import Parser
+from .replies import Replies
 from .screen import Screen
 
 __all__ = [
     "Attributes",
     "BytesLike",
     "Callbacks",
+    "Capture",
     "Cell",
     "Color",
+    "Cursor",
     "CursorStyle",
+    "Dirty",
     "Error",
+    "History",
     "Mirror",
     "MouseProtocolEncoding",
     "MouseProtocolMode",
     "Parser",
     "Position",
     "Repeat",
+    "Replies",
+    "RowContents",
     "Screen",
     "Size",
+    "TERMINAL_RESTORE",
+    "TERMINAL_SETUP",
     "Update",
+    "__version__",
+    "capture",
+    "color_name",
     "library_version",
 ]
 

@@ -2,49 +2,83 @@
 
 from __future__ import annotations
 
+import bisect
 import re
-from typing import List, Pattern, Sequence, Tuple, Union
+from typing import Callable, Dict, List, Pattern, Sequence, Tuple, Union
 
-from ._cells import Cell, Position
+from ._cells import CELL_FLAGS, CELL_LEN, CELL_SIZE, WIDE, WIDE_CONTINUATION, Position
 
 
-def places_of(
-    text: Union[str, Pattern[str]],
-    rows: Sequence[Sequence[Cell]],
-    wrapped: Sequence[bool],
-) -> List[Position]:
-    """Returns the positions at which `text` begins, in order."""
+def pattern_of(text: Union[str, Pattern[str]]) -> Pattern[str]:
+    """Returns the pattern that matches a string, or the given pattern. Raises `TypeError` for other
+    objects, and `ValueError` for the empty string."""
     if isinstance(text, str):
         if not text:
             raise ValueError("the text to find is empty")
-        text = re.compile(re.escape(text))
-    contents, places = contents_with_places(rows, wrapped)
-    return [places[match.start()] for match in text.finditer(contents) if match.group()]
+        return re.compile(re.escape(text))
+    if isinstance(text, re.Pattern) and isinstance(text.pattern, str):
+        return text
+    kind = "a pattern of bytes" if isinstance(text, re.Pattern) else type(text).__name__
+    raise TypeError(f"the text to find must be a str or a compiled pattern, not {kind}")
 
 
-def contents_with_places(
-    rows: Sequence[Sequence[Cell]], wrapped: Sequence[bool]
-) -> Tuple[str, List[Position]]:
-    """Returns the text of `Screen.contents`, and the position of each of its characters."""
-    contents: List[str] = []
-    places: List[Position] = []
-    for row, cells in enumerate(rows):
-        width = _written(cells)
-        for col, cell in enumerate(cells[:width]):
-            contents += cell.display
-            places += [Position(row, col)] * len(cell.display)
-        next_row = rows[row + 1] if row + 1 < len(rows) else []
-        if not wrapped[row] or _written(next_row) == 0:
-            contents.append("\n")
-            places.append(Position(row, width))
-    text = "".join(contents).rstrip("\n")
-    return text, places[: len(text)]
+def places_of(
+    pattern: Pattern[str],
+    rows: Sequence[str],
+    wrapped: Sequence[bool],
+    record: Callable[[int], bytes],
+) -> List[Position]:
+    """Returns the positions at which matches begin, in order. `rows` is the text of each row, and
+    `record` returns the cells of a row as an array of `vt100_cell`."""
+    contents, starts = contents_of(rows, wrapped)
+    columns: Dict[int, List[int]] = {}
+    places = []
+    for match in pattern.finditer(contents):
+        if not match.group():
+            continue
+        row = bisect.bisect_right(starts, match.start()) - 1
+        at = match.start() - starts[row]
+        if not rows[row].isascii():
+            if row not in columns:
+                columns[row] = columns_of(record(row))
+            at = columns[row][at]
+        places.append(Position(row, at))
+    return places
 
 
-def _written(cells: Sequence[Cell]) -> int:
+def contents_of(rows: Sequence[str], wrapped: Sequence[bool]) -> Tuple[str, List[int]]:
+    """Returns the text of `Screen.contents`, and the index in it at which each row begins."""
+    pieces: List[str] = []
+    starts = []
+    at = 0
+    for row, text in enumerate(rows):
+        starts.append(at)
+        pieces.append(text)
+        at += len(text)
+        if not wrapped[row] or row + 1 == len(rows) or not rows[row + 1]:
+            pieces.append("\n")
+            at += 1
+    return "".join(pieces).rstrip("\n"), starts
+
+
+def columns_of(record: bytes) -> List[int]:
+    """Returns the column of each character of a row's text, and of the newline after it."""
+    columns: List[int] = []
+    width = written(record)
+    for col in range(width):
+        cell = record[CELL_SIZE * col : CELL_SIZE * (col + 1)]
+        length = cell[CELL_LEN]
+        if length:
+            columns += [col] * len(cell[:length].decode())
+        elif not cell[CELL_FLAGS] & WIDE_CONTINUATION:
+            columns.append(col)
+    return [*columns, width]
+
+
+def written(record: bytes) -> int:
     """Returns the number of cells up to and including the last one that has text or belongs to a
     wide character."""
-    for col in range(len(cells), 0, -1):
-        if cells[col - 1].text or cells[col - 1].wide_continuation:
-            return col
-    return 0
+    count = len(record[CELL_LEN::CELL_SIZE].rstrip(b"\0"))
+    if count and record[CELL_SIZE * (count - 1) + CELL_FLAGS] & WIDE:
+        return min(count + 1, len(record) // CELL_SIZE)
+    return count

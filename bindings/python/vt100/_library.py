@@ -133,6 +133,10 @@ def _arguments() -> Dict[str, List[Any]]:
         "join": [handle, ctypes.POINTER(u64)],
         "leave": [handle, u64],
         "mirror_is_current": [handle, u64, flag],
+        "capture_new": [handle],
+        "capture_screen": [handle, handle, length],
+        "capture_row": [handle, size, handle, length],
+        "next_row": [data, size, u16, size, length, length],
     }
     for name in (
         "contents",
@@ -202,14 +206,15 @@ library = _load()
 library_version: str = library.vt100_version().decode()
 
 
-def check(status: int) -> None:
-    """Raises the exception for a status other than VT100_OK."""
+def check(status: int, wrong: str = "") -> None:
+    """Raises the exception for a status other than VT100_OK. `wrong` says which argument is invalid
+    if the status is VT100_BAD_ARGUMENT."""
     if status == 0:
         return
     if status == OUT_OF_MEMORY:
         raise MemoryError
     if status == BAD_ARGUMENT:
-        raise ValueError("no such size, row, cell, range or viewer")
+        raise ValueError(wrong or "an argument is invalid")
     raise Error(_STATUSES.get(status, f"status {status}"))
 
 

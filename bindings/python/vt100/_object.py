@@ -5,9 +5,11 @@ from __future__ import annotations
 import array
 import ctypes
 import mmap
+import os
 import threading
+import weakref
 from types import TracebackType
-from typing import Any, NoReturn, Optional, SupportsIndex, Type, TypeVar, Union
+from typing import Any, Dict, NoReturn, Optional, SupportsIndex, Type, TypeVar, Union
 
 from ._library import Handle, check, library
 
@@ -28,6 +30,14 @@ def as_bytes(data: BytesLike) -> bytes:
         raise TypeError(f"a bytes-like object is required, not {kind!r}") from None
 
 
+#: All objects by their ids. Each is locked during a fork.
+_all: weakref.WeakValueDictionary[int, Object] = weakref.WeakValueDictionary()
+_all_lock = threading.RLock()
+
+#: The objects that this thread has locked for a fork.
+_forking = threading.local()
+
+
 class Object:
     """An object of the library. Its methods may be called from several threads; calls wait for each
     other."""
@@ -41,6 +51,8 @@ class Object:
         self._handle = Handle()
         self._at = ctypes.byref(self._handle)
         self._lock = threading.RLock()
+        with _all_lock:
+            _all[id(self)] = self
         return self
 
     def __del__(self) -> None:
@@ -75,25 +87,55 @@ class Object:
     def _is_closed(self) -> bool:
         return self._handle.at is None
 
-    def _call(self, function: Any, *arguments: Any) -> None:
-        """Calls a function of the library with the handle and the given arguments."""
+    def _call(self, function: Any, *arguments: Any, wrong: str = "") -> None:
+        """Calls a function of the library with the handle and the given arguments. `wrong` says
+        what is wrong if the function finds an argument invalid."""
         with self._lock:
             status = function(self._at, *arguments)
         if status:
-            check(status)
+            check(status, wrong)
 
-    def _bytes(self, function: Any, *arguments: Any) -> bytes:
+    def _bytes(self, function: Any, *arguments: Any, wrong: str = "") -> bytes:
         """Returns the text that a function of the library generates, as UTF-8."""
         length = ctypes.c_size_t()
         with self._lock:
-            self._call(function, *arguments, ctypes.byref(length))
+            self._call(function, *arguments, ctypes.byref(length), wrong=wrong)
             room = ctypes.create_string_buffer(length.value)
             library.vt100_copy(self._at, room, length)
         return room.raw
 
-    def _text(self, function: Any, *arguments: Any) -> str:
+    def _text(self, function: Any, *arguments: Any, wrong: str = "") -> str:
         """Returns the text that a function of the library generates, as a string."""
-        return self._bytes(function, *arguments).decode()
+        return self._bytes(function, *arguments, wrong=wrong).decode()
 
     def _process(self, data: bytes) -> None:
         self._call(library.vt100_process, data, len(data))
+
+
+def _before_fork() -> None:
+    """Waits for the calls of other threads to end, so that the child's copies of the objects are
+    whole and not locked by a thread that the child does not have."""
+    held: Dict[int, Object] = {}
+    while True:
+        _all_lock.acquire()
+        others = sorted((one for one in _all.values() if id(one) not in held), key=id)
+        if not others:
+            break
+        # A thread that holds the lock of an object may be waiting to make another object.
+        _all_lock.release()
+        for one in others:
+            one._lock.acquire()
+            held[id(one)] = one
+    _forking.objects = held
+
+
+def _after_fork() -> None:
+    for one in _forking.objects.values():
+        one._lock.release()
+    del _forking.objects
+    _all_lock.release()
+
+
+os.register_at_fork(
+    before=_before_fork, after_in_parent=_after_fork, after_in_child=_after_fork
+)

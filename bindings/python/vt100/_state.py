@@ -8,10 +8,10 @@ from ._cells import (
     FLAGS,
     Attributes,
     Color,
+    Cursor,
     CursorStyle,
     MouseProtocolEncoding,
     MouseProtocolMode,
-    Position,
     Size,
 )
 from ._library import State, library
@@ -44,11 +44,11 @@ class HasState(Object):
         return self._state.cols
 
     @property
-    def cursor(self) -> Position:
-        """The position of the cursor. If a wrap is pending (after a character was printed in the
-        last column), the column equals the number of columns."""
+    def cursor(self) -> Cursor:
+        """The position of the cursor, and whether it is hidden. If a wrap is pending (after a
+        character was printed in the last column), the column equals the number of columns."""
         state = self._state
-        return Position(state.cursor_row, state.cursor_col)
+        return Cursor(state.cursor_row, state.cursor_col, bool(state.hide_cursor))
 
     @property
     def hide_cursor(self) -> bool:

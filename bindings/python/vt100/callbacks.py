@@ -2,9 +2,11 @@
 
 from __future__ import annotations
 
-from typing import TYPE_CHECKING, List, Optional
+import difflib
+from typing import TYPE_CHECKING, Any, List, Optional
 
 if TYPE_CHECKING:
+    from .capture import RowContents
     from .screen import Screen
 
 
@@ -23,10 +25,15 @@ class Callbacks:
 
         parser = vt100.Parser(24, 80, callbacks=Bells())
 
+    A method whose name resembles that of a callback is an error, since it would never be invoked;
+    a helper method can have a name that begins with an underscore.
+
     Callbacks are invoked during `process`, in order, after the byte that completes the sequence and
-    before the next byte is parsed. `screen` is the parser. A callback may read and change it, but
-    must not call `process`. An exception raised by a callback propagates from `process`; the
-    remaining bytes are not parsed, and no further callbacks are invoked.
+    before the next byte is parsed. Only `on_scroll` and `on_scroll_row`, which are not passed the
+    screen, may be invoked a few thousand bytes later, if these bytes contain nothing but text and
+    colors. `screen` is the parser. A callback may read and change it, but must not call `process`.
+    An exception raised by a callback propagates from `process`; the bytes after those that were
+    parsed are not parsed, and no further callbacks are invoked.
 
     Strings that a program sends are `bytes`, because they need not be UTF-8.
 
@@ -34,6 +41,18 @@ class Callbacks:
     the events of one byte take more than about 1 MiB (such as many rows that scroll off at once),
     `events_lost` is invoked instead of the callbacks of the remaining events.
     """
+
+    def __init_subclass__(cls, **arguments: Any) -> None:
+        super().__init_subclass__(**arguments)
+        names = [name for name in vars(Callbacks) if not name.startswith("_")]
+        for name, value in vars(cls).items():
+            if name.startswith("_") or name in names or not callable(value):
+                continue
+            meant = _OF_PYTE.get(name) or difflib.get_close_matches(name, names, 1, 0.75)
+            if meant:
+                raise TypeError(
+                    f"{cls.__name__}.{name} is not a callback, but resembles {meant[0]!r}"
+                )
 
     def audible_bell(self, screen: Screen) -> None:
         """Handles an audible bell (BEL)."""
@@ -101,3 +120,16 @@ class Callbacks:
     def events_lost(self, screen: Screen) -> None:
         """Handles a loss of events. Invoked after the callbacks of the events that preceded the
         lost ones."""
+
+    def on_scroll_row(self, row: RowContents, alternate_screen: bool) -> None:
+        """Handles the same rows as `on_scroll`, for callers that need the colors and attributes:
+        `row.formatted_basic(capture)` returns the row with SGR sequences. `row` can be used only
+        until this callback returns."""
+
+
+#: The callbacks that correspond to methods of a screen of pyte.
+_OF_PYTE = {
+    "bell": ["audible_bell"],
+    "set_title": ["set_window_title"],
+    "set_icon_name": ["set_window_icon_name"],
+}

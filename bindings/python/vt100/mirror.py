@@ -47,6 +47,10 @@ class Mirror(Object):
         character or sequence continues with the next call."""
         self._process(as_bytes(data))
 
+    def feed(self, text: str) -> None:
+        """Encodes a string as UTF-8 and processes it."""
+        self.process(text.encode())
+
     def set_size(self, rows: SupportsIndex, cols: SupportsIndex) -> None:
         """Resizes the terminal."""
         self._call(library.vt100_set_size, *size_in_range(rows, cols))
@@ -59,7 +63,8 @@ class Mirror(Object):
 
     def leave(self, viewer: SupportsIndex) -> None:
         """Removes a viewer."""
-        self._call(library.vt100_leave, in_range("viewer", viewer, 0, MAX_U64))
+        number = in_range("viewer", viewer, 0, MAX_U64)
+        self._call(library.vt100_leave, number, wrong=f"there is no viewer {number}")
 
     def update(self, viewer: SupportsIndex) -> Update:
         """Returns the next update of a viewer. The updates after it assume that the viewer has read
@@ -102,7 +107,9 @@ class Mirror(Object):
     def _update(self, function: Any, viewer: SupportsIndex, *options: int) -> Update:
         number = in_range("viewer", viewer, 0, MAX_U64)
         rows, cols = ctypes.c_uint16(), ctypes.c_uint16()
-        text = self._text(function, number, *options, ctypes.byref(rows), ctypes.byref(cols))
+        size = ctypes.byref(rows), ctypes.byref(cols)
+        wrong = f"there is no viewer {number}"
+        text = self._text(function, number, *options, *size, wrong=wrong)
         return Update(text, Size(rows.value, cols.value) if rows.value else None)
 
     def __repr__(self) -> str:

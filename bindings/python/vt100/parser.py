@@ -3,41 +3,61 @@
 from __future__ import annotations
 
 import ctypes
-from typing import NoReturn, Optional, SupportsIndex
+from typing import NoReturn, Sequence, SupportsIndex, Tuple, Union
 
-from . import _events
-from ._library import MAX_SIZE, check, in_range, library, size_in_range
+from . import _events, _lines
+from ._library import MAX_SIZE, Handle, check, in_range, library, size_in_range
 from ._object import BytesLike, as_bytes
 from .callbacks import Callbacks
 from .screen import Screen
+
+#: The kinds of events that are reported at the byte that causes them, and can occur in lines of
+#: text.
+_AT_ITS_BYTE = 1 << _events.UNHANDLED_CHAR | 1 << _events.UNHANDLED_CSI
+
+
+class _Titles(Callbacks):
+    """The title and the icon name of the window."""
+
+    title = ""
+    icon_name = ""
+
+    def set_window_title(self, screen: Screen, title: bytes) -> None:
+        self.title = title.decode(errors="replace")
+
+    def set_window_icon_name(self, screen: Screen, icon_name: bytes) -> None:
+        self.icon_name = icon_name.decode(errors="replace")
 
 
 class Parser(Screen):
     """A screen with a parser that applies bytes to it.
 
     `scrollback` is the maximum number of scrollback rows. The methods of `callbacks` are invoked
-    for bells, titles and other events. In a `with` statement, the parser is freed at the end.
+    for bells, titles and other events; if it is a sequence of objects, each event is passed to each
+    of them, in order. In a `with` statement, the parser is freed at the end.
     """
 
-    _callbacks: Optional[Callbacks] = None
-    _wanted = 0
+    _callbacks: Union[None, Callbacks, Sequence[Callbacks]] = None
     _is_reporting = False
+    _is_ground = True
 
     def __init__(
         self,
         rows: SupportsIndex = 24,
         cols: SupportsIndex = 80,
         scrollback: SupportsIndex = 0,
-        callbacks: Optional[Callbacks] = None,
+        callbacks: Union[None, Callbacks, Sequence[Callbacks]] = None,
     ) -> None:
-        if not (callbacks is None or isinstance(callbacks, Callbacks)):
-            raise TypeError(f"callbacks must be a Callbacks, not {callbacks!r}")
+        own = _as_sequence(callbacks)
         size = size_in_range(rows, cols)
         capacity = in_range("scrollback", scrollback, 0, MAX_SIZE)
-        wanted = 0 if callbacks is None else _events.wanted(callbacks)
-        check(library.vt100_parser_new(*size, capacity, wanted, self._at))
-        self._callbacks = callbacks
-        self._wanted = wanted
+        titles = _Titles()
+        listeners = _events.Listeners([titles, *own])
+        check(library.vt100_parser_new(*size, capacity, listeners.wanted, self._at))
+        self._callbacks, self._capacity = callbacks, capacity
+        self._titles, self._listeners = titles, listeners
+        wants_rows = listeners.wanted >> _events.ON_SCROLL & 1 == 1
+        self._is_bulk = wants_rows and not listeners.wanted & _AT_ITS_BYTE
 
     @property
     def screen(self) -> Screen:
@@ -45,34 +65,68 @@ class Parser(Screen):
         return self
 
     @property
-    def callbacks(self) -> Optional[Callbacks]:
+    def callbacks(self) -> Union[None, Callbacks, Sequence[Callbacks]]:
         """The callbacks passed to the constructor."""
         return self._callbacks
+
+    @property
+    def title(self) -> str:
+        """The title of the window (OSC 0 and 2). Bytes that are not UTF-8 are replaced by U+FFFD,
+        and a title of more than about 1 MiB is ignored."""
+        return self._titles.title
+
+    @property
+    def icon_name(self) -> str:
+        """The icon name of the window (OSC 0 and 1), with the limits of `title`."""
+        return self._titles.icon_name
 
     def process(self, data: BytesLike) -> None:
         """Parses bytes and applies them to the screen, invoking callbacks as sequences complete.
         Input may be split anywhere: an incomplete character or sequence continues with the next
         call."""
         data = as_bytes(data)
-        if not self._wanted:
-            self._process(data)
-            return
         with self._lock:
             if self._is_reporting:
                 raise RuntimeError("process was called by a callback of the same parser")
-            self._process_reporting(data)
+            # Until all of the input is parsed, an exception may leave a sequence unfinished.
+            self._is_ground, was_ground = False, self._is_ground
+            if self._is_bulk and was_ground and _lines.is_lines(data):
+                self._process_lines(data)
+            else:
+                self._process_until(data, 0, len(data))
+            self._is_ground = _lines.is_ground(data, was_ground)
 
-    def _process_reporting(self, data: bytes) -> None:
+    def feed(self, text: str) -> None:
+        """Encodes a string as UTF-8 and processes it."""
+        self.process(text.encode())
+
+    def _process_until(self, data: bytes, at: int, end: int) -> None:
+        """Processes a part of the input, and reports each event at the byte that causes it."""
         start = ctypes.cast(ctypes.c_char_p(data), ctypes.c_void_p).value or 0
-        at, used = 0, ctypes.c_size_t()
-        while at < len(data):
+        used = ctypes.c_size_t()
+        while at < end:
             used.value = 0
             status = library.vt100_process_until(
-                self._at, start + at, len(data) - at, ctypes.byref(used)
+                self._at, start + at, end - at, ctypes.byref(used)
             )
             at += used.value
             self._report()
             check(status)
+
+    def _process_lines(self, data: bytes) -> None:
+        """Processes lines of text, and reports the rows of each slice after it was parsed."""
+        start = ctypes.cast(ctypes.c_char_p(data), ctypes.c_void_p).value or 0
+        at = 0
+        while at < len(data):
+            end = _lines.slice_end(data, at, *self.size)
+            if end == at:
+                end = min(len(data), at + _lines.MAX_SLICE)
+                self._process_until(data, at, end)
+            else:
+                status = library.vt100_process(self._at, start + at, end - at)
+                self._report()
+                check(status)
+            at = end
 
     @property
     def pending_len(self) -> int:
@@ -93,26 +147,51 @@ class Parser(Screen):
                 super().set_size(*size)
                 return
             self._call(library.vt100_set_size, *size)
-            if self._wanted:
-                self._report()
+            self._report()
+
+    def reset(self) -> None:
+        """Makes the parser as new: its screen is blank and has the default modes, there is no
+        scrollback, title or unfinished sequence. The size is kept. Invokes no callbacks."""
+        fresh = Handle()
+        with self._lock:
+            arguments = *self.size, self._capacity, self._listeners.wanted
+            check(library.vt100_parser_new(*arguments, ctypes.byref(fresh)))
+            self._handle.at, fresh.at = fresh.at, self._handle.at
+            library.vt100_free(ctypes.byref(fresh))
+            self._titles.title = self._titles.icon_name = ""
+            self._is_ground = not self._is_reporting
 
     def _report(self) -> None:
-        """Clears the event log, and invokes the callbacks for the events that were in it."""
+        """Invokes the callbacks for the events in the log, and clears it."""
         length, is_whole = ctypes.c_size_t(), ctypes.c_uint8()
         self._call(library.vt100_events, ctypes.byref(length), ctypes.byref(is_whole))
         if is_whole.value and not length.value:
             return
         log = ctypes.create_string_buffer(length.value)
         library.vt100_copy_events(self._at, log, length)
-        self._call(library.vt100_clear_events)
         self._is_reporting = True
         try:
-            if self._callbacks is not None:
-                _events.report(log.raw, self._callbacks, self)
-                if not is_whole.value:
-                    self._callbacks.events_lost(self)
+            self._listeners.report(log.raw, self)
+            if not is_whole.value:
+                self._listeners.report_lost(self)
         finally:
             self._is_reporting = False
+            library.vt100_clear_events(self._at)  # does nothing if a callback closed the parser
 
     def __copy__(self) -> NoReturn:
         raise TypeError("a Parser cannot be copied; save() returns a copy of its screen")
+
+
+def _as_sequence(
+    callbacks: Union[None, Callbacks, Sequence[Callbacks]]
+) -> Tuple[Callbacks, ...]:
+    """Returns the objects with callbacks. Raises `TypeError` if one is not a `Callbacks`."""
+    if callbacks is None:
+        return ()
+    if isinstance(callbacks, Callbacks):
+        return (callbacks,)
+    found = tuple(callbacks) if isinstance(callbacks, Sequence) else (callbacks,)
+    for one in found:
+        if not isinstance(one, Callbacks):
+            raise TypeError(f"callbacks must be a Callbacks, not {one!r}")
+    return found

@@ -11,7 +11,6 @@ from typing import (
     List,
     Optional,
     Pattern,
-    Set,
     SupportsIndex,
     Tuple,
     Union,
@@ -20,7 +19,18 @@ from typing import (
 
 from . import _find
 from ._cells import CELL_SIZE, Cell, Position, cell_of, cells_of
-from ._library import MAX_SIZE, MAX_U16, State, in_range, library, size_in_range
+from ._dirty import Dirty
+from ._history import History
+from ._library import (
+    BAD_ARGUMENT,
+    MAX_SIZE,
+    MAX_U16,
+    State,
+    check,
+    in_range,
+    library,
+    size_in_range,
+)
 from ._options import Repeat, diff_options
 from ._state import HasState
 
@@ -88,27 +98,31 @@ class Screen(HasState):
         if not (0 <= row <= MAX_U16 and 0 <= col <= MAX_U16):
             return None
         record = ctypes.create_string_buffer(CELL_SIZE)
-        try:
-            self._call(library.vt100_get_cell, row, col, record)
-        except ValueError:
+        with self._lock:
+            status = library.vt100_get_cell(self._at, row, col, record)
+        if status == BAD_ARGUMENT:
             return None
+        check(status)
         return cell_of(record.raw)
 
     def cells(self, row: _Index) -> List[Cell]:
         """Returns the cells of a displayed row, one for each column of the screen. This is faster
         than calling `cell` for each column. Raises `ValueError` if there is no such row."""
-        row = in_range("row", row, 0, MAX_U16)
         with self._lock:
-            cols = self._state.cols
-            records = ctypes.create_string_buffer(CELL_SIZE * cols)
-            self._call(library.vt100_get_cells, row, records, cols)
-        return cells_of(records.raw)
+            state = self._state
+            return cells_of(self._record(in_range("row", row, 0, state.rows - 1), state.cols))
 
     @property
     def buffer(self) -> List[List[Cell]]:
         """The cells of all displayed rows, as `buffer[row][col]`. The list is not affected by later
         changes of the screen."""
         return [cells_of(records) for records in self._records()]
+
+    @property
+    def history(self) -> History:
+        """The rows of scrollback, from the oldest to the latest one, as a sequence of lists of
+        cells: `history[-1]` is the row above the page. Its method `rows` returns their text."""
+        return History(self)
 
     @overload
     def __getitem__(self, place: _Index) -> List[Cell]:
@@ -122,8 +136,10 @@ class Screen(HasState):
         self, place: Union[_Index, Tuple[_Index, _Index]]
     ) -> Union[List[Cell], Cell]:
         if isinstance(place, tuple):
-            row, col = place
-            return self[row][operator.index(col)]
+            cells, col = self[place[0]], operator.index(place[1])
+            if not -len(cells) <= col < len(cells):
+                raise IndexError(f"column {col} of a screen of {len(cells)} columns")
+            return cells[col]
         row = operator.index(place)
         with self._lock:
             rows = self._state.rows
@@ -137,8 +153,11 @@ class Screen(HasState):
     def row_wrapped(self, row: _Index) -> bool:
         """Returns whether a displayed row is wrapped (its text continues on the next row). Raises
         `ValueError` if there is no such row."""
+        with self._lock:
+            return self._wrapped(in_range("row", row, 0, self._state.rows - 1))
+
+    def _wrapped(self, row: int) -> bool:
         wrapped = ctypes.c_uint8()
-        row = in_range("row", row, 0, MAX_U16)
         self._call(library.vt100_row_wrapped, row, ctypes.byref(wrapped))
         return wrapped.value == 1
 
@@ -149,6 +168,12 @@ class Screen(HasState):
         steady = ctypes.c_uint8()
         self._call(library.vt100_is_steady, ctypes.byref(steady))
         return steady.value == 1
+
+    def _record(self, row: int, cols: int) -> bytes:
+        """Returns the cells of a displayed row as an array of `vt100_cell`."""
+        records = ctypes.create_string_buffer(CELL_SIZE * cols)
+        self._call(library.vt100_get_cells, row, records, cols)
+        return records.raw
 
     def _records(self) -> List[bytes]:
         """Returns the cells of each displayed row as an array of `vt100_cell`."""
@@ -166,16 +191,13 @@ class Screen(HasState):
         """Returns, for each displayed row, its cells and whether it is wrapped."""
         with self._lock:
             records = self._records()
-            return [cells + bytes([self.row_wrapped(row)]) for row, cells in enumerate(records)]
+            return [cells + bytes([self._wrapped(row)]) for row, cells in enumerate(records)]
 
-    def dirty(self) -> Set[int]:
-        """Returns the displayed rows that have changed since the last call to this method. The
-        first call, and the first one after a resize, returns all rows."""
-        with self._lock:
-            seen, self._seen = self._seen, self._rows_whole()
-            if seen is None or len(seen) != len(self._seen):
-                return set(range(len(self._seen)))
-            return {row for row, cells in enumerate(self._seen) if cells != seen[row]}
+    @property
+    def dirty(self) -> Dirty:
+        """The set of the displayed rows that have changed since `dirty.clear()`. A call `dirty()`
+        returns the rows as a set and clears them."""
+        return Dirty(self)
 
     # Text
 
@@ -183,7 +205,15 @@ class Screen(HasState):
     def display(self) -> List[str]:
         """The text of each displayed row in all columns of the row, with a space for each cell
         to which nothing was written."""
-        return ["".join(cell.display for cell in cells) for cells in self.buffer]
+        with self._lock:
+            cols = self._state.cols
+            rows = enumerate(self._row_texts(library.vt100_rows, 0, cols))
+            return [
+                text.ljust(cols)
+                if text.isascii()
+                else text + " " * (cols - _find.written(self._record(row, cols)))
+                for row, text in rows
+            ]
 
     def contents(self) -> str:
         """Returns the plain text of the displayed rows. Each row is followed by a newline, unless
@@ -203,17 +233,20 @@ class Screen(HasState):
             ("end_row", end_row),
             ("end_col", end_col),
         )
-        places = (in_range(name, value, 0, MAX_U16) for name, value in named)
-        return self._text(library.vt100_contents_between, *places)
+        places = [in_range(name, value, 0, MAX_U16) for name, value in named]
+        wrong = f"start_col must be at most the number of columns, not {places[1]}"
+        return self._text(library.vt100_contents_between, *places, wrong=wrong)
 
     def find(self, text: Union[str, Pattern[str]]) -> List[Position]:
         """Returns the positions in `contents` at which `text`, or a match of a compiled pattern,
         begins. Matches do not overlap. Text that continues from a wrapped row onto the next row
         is found, too."""
+        pattern = _find.pattern_of(text)
         with self._lock:
-            cells = self.buffer
-            wrapped = [self.row_wrapped(row) for row in range(len(cells))]
-        return _find.places_of(text, cells, wrapped)
+            cols = self._state.cols
+            rows = self._row_texts(library.vt100_rows, 0, cols)
+            wrapped = [self._wrapped(row) for row in range(len(rows))]
+            return _find.places_of(pattern, rows, wrapped, lambda row: self._record(row, cols))
 
     def rows(self, start: _Index = 0, width: Optional[_Index] = None) -> List[str]:
         """Returns the plain text of each displayed row in `width` columns from column `start` on.
@@ -245,7 +278,8 @@ class Screen(HasState):
             state = self._state
             cols = state.cols if width is None else in_range("width", width, 0, MAX_U16)
             ends = (ctypes.c_size_t * state.rows)()
-            text = self._bytes(function, *before, start, cols, ends, state.rows)
+            wrong = f"start must be a column of the screen, from 0 to {state.cols - 1}, not {start}"
+            text = self._bytes(function, *before, start, cols, ends, state.rows, wrong=wrong)
         starts = [0, *ends[:-1]]
         return [text[begin:end].decode() for begin, end in zip(starts, ends)]
 
