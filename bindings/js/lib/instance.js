@@ -1,0 +1,149 @@
+// The memory and the functions of one instance of the module.
+
+import { errorOf, outOfMemory } from "./errors.js";
+
+/** The number of bytes that every call may use for its input and output. */
+export const ROOM = 65536;
+
+const RESULTS_SIZE = 64;
+const HANDLE_SIZE = 8;
+
+// Without ignoreBOM, a U+FEFF at the start of a text would be lost.
+const decoder = new TextDecoder("utf-8", { ignoreBOM: true });
+const encoder = new TextEncoder();
+
+/** Returns the text of `len` bytes of UTF-8. Most cells have at most one byte. */
+export function textOf(bytes, at, len) {
+  if (len === 0) return "";
+  if (len === 1) return String.fromCharCode(bytes[at]);
+  return decoder.decode(bytes.subarray(at, at + len));
+}
+
+/** Returns the number that is stored in 8 bytes. Lengths and counts are exact, since memory is smaller than 2^53. */
+export function wordOf(view, at) {
+  return view.getUint32(at, true) + view.getUint32(at + 4, true) * 0x100000000;
+}
+
+/** Returns the bytes that `process` was given, or undefined for a string. */
+export function bytesOf(data) {
+  if (typeof data === "string") return undefined;
+  if (data instanceof Uint8Array) return data;
+  if (ArrayBuffer.isView(data)) return new Uint8Array(data.buffer, data.byteOffset, data.byteLength);
+  if (data instanceof ArrayBuffer) return new Uint8Array(data);
+  throw new TypeError("data must be a string, a Uint8Array or other view, or an ArrayBuffer");
+}
+
+/**
+ * An instance of the module, its memory, and room in it for what is passed to its functions.
+ *
+ * Pointers and sizes are bigints at the boundary, also in the module with a 32-bit memory, whose functions keep their
+ * types. A view of the memory is detached when the memory grows, so every call that may allocate is followed by
+ * `check` or `renew`.
+ */
+export class Instance {
+  constructor(exports) {
+    this.library = exports;
+    this.memory = exports.memory;
+    this.bytes = new Uint8Array(0);
+    this.renew();
+    // Calls store their results here: a length, a flag, a number of rows or columns, or a viewer.
+    this.results = this.allocate(RESULTS_SIZE);
+    this.first = BigInt(this.results);
+    this.second = this.first + 8n;
+    this.third = this.first + 16n;
+    this.room = this.allocate(ROOM);
+    this.roomPointer = BigInt(this.room);
+    this.registry = new FinalizationRegistry((slot) => this.freeSlot(slot));
+  }
+
+  /** Renews the views if the memory has grown. */
+  renew() {
+    if (this.bytes.length > 0) return;
+    this.bytes = new Uint8Array(this.memory.buffer);
+    this.view = new DataView(this.memory.buffer);
+  }
+
+  /** Throws the error for a status other than 0, and renews the views. */
+  check(status) {
+    this.renew();
+    if (status !== 0) throw errorOf(status);
+  }
+
+  /** Returns the number that a call stored in the first 8 bytes of the results. */
+  get word() {
+    return wordOf(this.view, this.results);
+  }
+
+  /** Returns the flag that a call stored in the first byte of the results. */
+  get flag() {
+    return this.bytes[this.results] === 1;
+  }
+
+  /** Returns the address of `count` new bytes. */
+  allocate(count) {
+    const at = Number(this.library.vt100_js_malloc(BigInt(count)));
+    this.renew();
+    if (at === 0) throw outOfMemory();
+    return at;
+  }
+
+  /** Frees what `allocate` returned. */
+  release(at) {
+    this.library.vt100_js_free(BigInt(at));
+  }
+
+  /** Returns what `use` returns for the address of `count` bytes, which belong to it until it returns. */
+  withRoom(count, use) {
+    if (count <= ROOM) return use(this.room);
+    const at = this.allocate(count);
+    try {
+      return use(at);
+    } finally {
+      this.release(at);
+    }
+  }
+
+  /** Returns the pointer to a new empty handle. */
+  newSlot() {
+    const at = this.allocate(HANDLE_SIZE);
+    this.view.setBigUint64(at, 0n, true);
+    return BigInt(at);
+  }
+
+  /** Frees a handle and its object. Does nothing after a trap, when every function of the module traps. */
+  freeSlot(slot) {
+    try {
+      this.library.vt100_free(slot);
+      this.library.vt100_js_free(slot);
+    } catch (error) {
+      if (!(error instanceof WebAssembly.RuntimeError)) throw error;
+    }
+  }
+
+  /** Puts data into the room, one chunk at a time, and calls `take` with the number of bytes of each. */
+  inChunks(data, take) {
+    const source = bytesOf(data);
+    if (source === undefined) return this.#textInChunks(data, take);
+    for (let at = 0; at < source.length; at += ROOM) {
+      const chunk = source.subarray(at, at + ROOM);
+      this.bytes.set(chunk, this.room);
+      take(chunk.length);
+    }
+  }
+
+  #textInChunks(text, take) {
+    for (let at = 0; at < text.length; ) {
+      // encodeInto stops before a surrogate pair that does not fit.
+      const target = this.bytes.subarray(this.room, this.room + ROOM);
+      const { read, written } = encoder.encodeInto(at === 0 ? text : text.slice(at), target);
+      at += read;
+      take(written);
+    }
+  }
+
+  /** Returns the string of a constant of the library, which ends with a null byte. */
+  constant(pointer) {
+    const start = Number(pointer);
+    return textOf(this.bytes, start, this.bytes.indexOf(0, start) - start);
+  }
+}

@@ -1,0 +1,13 @@
+// The options of diffs.
+
+/** The one-column characters that a diff may repeat with REP: none, printable ASCII characters, or all. */
+export const Repeat = Object.freeze({ NEVER: 0, ASCII: 4, ANY: 2 });
+
+const SCROLL = 1;
+const REPEATS = Object.values(Repeat);
+
+/** Returns the bits that the library expects for the options of a diff. */
+export function diffOptions({ scroll = false, repeat = Repeat.NEVER } = {}) {
+  if (!REPEATS.includes(repeat)) throw new RangeError(`repeat must be a value of Repeat, not ${String(repeat)}`);
+  return (scroll ? SCROLL : 0) | repeat;
+}

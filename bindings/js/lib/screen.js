@@ -1,0 +1,256 @@
+// Screens.
+
+import { inU16, isU16, rowCount, sizeInRange } from "./errors.js";
+import { Handle } from "./handle.js";
+import { textOf, wordOf } from "./instance.js";
+import { diffOptions } from "./options.js";
+import { CELL_SIZE, Cell, PROPERTIES, STATE_SIZE, cellsOf, stateOf } from "./records.js";
+
+const BAD_ARGUMENT = 3;
+const MAX_WIDTH = 0xffff;
+
+/** A screen, which belongs to a parser or is a copy of one. */
+export class Screen extends Handle {
+  /** The records of all rows when `dirty` was last called. */
+  #seen;
+
+  save() {
+    return new Screen(this._instance, (out) => this._instance.library.vt100_save(this._at, out));
+  }
+
+  shownCopy() {
+    return new Screen(this._instance, (out) => this._instance.library.vt100_shown_copy(this._at, out));
+  }
+
+  swap(other) {
+    this.#checkScreen(other);
+    if (other !== this) this.#call("vt100_swap", other._at);
+  }
+
+  setSize(rows, cols) {
+    this.#call("vt100_screen_set_size", ...sizeInRange(rows, cols));
+  }
+
+  setScrollback(rows) {
+    this.#call("vt100_set_scrollback", rowCount("rows", rows));
+  }
+
+  clearScrollback() {
+    this.#call("vt100_clear_scrollback");
+  }
+
+  get state() {
+    const instance = this._instance;
+    return instance.withRoom(STATE_SIZE, (at) => {
+      instance.check(instance.library.vt100_get_state(this._at, BigInt(at)));
+      return stateOf(instance.bytes, instance.view, at);
+    });
+  }
+
+  get size() {
+    const { rows, cols } = this.state;
+    return { rows, cols };
+  }
+
+  get cursor() {
+    const { cursorRow, cursorCol } = this.state;
+    return { row: cursorRow, col: cursorCol };
+  }
+
+  cell(row, col) {
+    const instance = this._instance;
+    const at = this._at;
+    if (!isU16(row) || !isU16(col)) return undefined;
+    const status = instance.library.vt100_get_cell(at, row, col, instance.roomPointer);
+    if (status === BAD_ARGUMENT) return undefined;
+    instance.check(status);
+    return new Cell(instance.bytes, instance.room);
+  }
+
+  cells(row) {
+    return this.#withRow(row, this.size.cols, cellsOf);
+  }
+
+  rowBytes(row, out) {
+    return this.#withRow(row, this.size.cols, (bytes, at, cols) => {
+      const records = bytes.subarray(at, at + CELL_SIZE * cols);
+      if (out === undefined) return records.slice();
+      out.set(records);
+      return out;
+    });
+  }
+
+  /** Returns what `use` returns for the memory, and the address and number of the records of a row. */
+  #withRow(row, cols, use) {
+    const instance = this._instance;
+    inU16("row", row);
+    return instance.withRoom(CELL_SIZE * cols, (at) => {
+      instance.check(instance.library.vt100_get_cells(this._at, row, BigInt(at), BigInt(cols)));
+      return use(instance.bytes, at, cols);
+    });
+  }
+
+  dirty() {
+    const { rows, cols } = this.size;
+    const isNew = this.#seen?.rows !== rows || this.#seen.cols !== cols;
+    if (isNew) this.#seen = { rows, cols, records: new Uint8Array(CELL_SIZE * rows * cols) };
+    const changed = new Map();
+    for (let row = 0; row < rows; row++) {
+      const seen = this.#seen.records.subarray(CELL_SIZE * cols * row, CELL_SIZE * cols * (row + 1));
+      if (this.#update(row, cols, seen) || isNew) changed.set(row, seen);
+    }
+    return changed;
+  }
+
+  /** Copies the records of a row to `seen`, and returns whether they differ from what was there. */
+  #update(row, cols, seen) {
+    return this.#withRow(row, cols, (bytes, at) => {
+      // Records are compared as words of 4 bytes, which is 4 times as fast.
+      const count = seen.length / 4;
+      const old = new Int32Array(seen.buffer, seen.byteOffset, count);
+      const now = new Int32Array(bytes.buffer, at, count);
+      let same = 0;
+      while (same < count && now[same] === old[same]) same++;
+      if (same === count) return false;
+      old.set(now);
+      return true;
+    });
+  }
+
+  rowWrapped(row) {
+    this.#call("vt100_row_wrapped", inU16("row", row), this._instance.first);
+    return this._instance.flag;
+  }
+
+  isSteady() {
+    this.#call("vt100_is_steady", this._instance.first);
+    return this._instance.flag;
+  }
+
+  // Text
+
+  contents() {
+    return this.#textBy("vt100_contents");
+  }
+
+  contentsBetween(startRow, startCol, endRow, endCol) {
+    const start = [inU16("startRow", startRow), inU16("startCol", startCol)];
+    const end = [inU16("endRow", endRow), inU16("endCol", endCol)];
+    return this.#textBy("vt100_contents_between", ...start, ...end);
+  }
+
+  rows(start = 0, width = MAX_WIDTH) {
+    return this.#rowTexts("vt100_rows", [], start, width);
+  }
+
+  // Escape sequences
+
+  contentsFormatted() {
+    return this.#textBy("vt100_contents_formatted");
+  }
+
+  contentsFormattedReset() {
+    return this.#textBy("vt100_contents_formatted_reset");
+  }
+
+  contentsFormattedBasic() {
+    return this.#textBy("vt100_contents_formatted_basic");
+  }
+
+  stateFormatted() {
+    return this.#textBy("vt100_state_formatted");
+  }
+
+  cursorStateFormatted() {
+    return this.#textBy("vt100_cursor_state_formatted");
+  }
+
+  attributesFormatted() {
+    return this.#textBy("vt100_attributes_formatted");
+  }
+
+  inputModeFormatted() {
+    return this.#textBy("vt100_input_mode_formatted");
+  }
+
+  rowsFormatted(start = 0, width = MAX_WIDTH) {
+    return this.#rowTexts("vt100_rows_formatted", [], start, width);
+  }
+
+  contentsDiff(prev) {
+    return this.#diff(prev, (other) => this.#textBy("vt100_contents_diff", other));
+  }
+
+  contentsDiffScrolling(prev) {
+    return this.#diff(prev, (other) => this.#textBy("vt100_contents_diff_scrolling", other));
+  }
+
+  contentsDiffWith(prev, options) {
+    const bits = diffOptions(options);
+    return this.#diff(prev, (other) => this.#textBy("vt100_contents_diff_with", other, bits));
+  }
+
+  stateDiff(prev) {
+    return this.#diff(prev, (other) => this.#textBy("vt100_state_diff", other));
+  }
+
+  inputModeDiff(prev) {
+    return this.#diff(prev, (other) => this.#textBy("vt100_input_mode_diff", other));
+  }
+
+  rowsDiff(prev, start = 0, width = MAX_WIDTH) {
+    return this.#diff(prev, (other) => this.#rowTexts("vt100_rows_diff", [other], start, width));
+  }
+
+  /** Calls a function of the library that takes this screen first. */
+  #call(name, ...words) {
+    this._instance.check(this._instance.library[name](this._at, ...words));
+  }
+
+  /** Returns the text that a function generates. */
+  #textBy(name, ...words) {
+    return this._text(this._instance.library[name](this._at, ...words, this._instance.first));
+  }
+
+  /** Returns what `make` returns for `prev`, or for a copy if `prev` is this screen: no call takes a handle twice. */
+  #diff(prev, make) {
+    this.#checkScreen(prev);
+    if (prev !== this) return make(prev._at);
+    const copy = this.save();
+    try {
+      return make(copy._at);
+    } finally {
+      copy.free();
+    }
+  }
+
+  /** Throws an error unless `other` is a screen in the memory of this one. */
+  #checkScreen(other) {
+    if (!(other instanceof Screen)) throw new TypeError("a Screen or a Parser is required");
+    if (other._instance !== this._instance) {
+      throw new TypeError("the screens are of two modules: call load() only once");
+    }
+  }
+
+  /** Returns the text that a function generates for each row. */
+  #rowTexts(name, before, start, width) {
+    const instance = this._instance;
+    const { rows } = this.size;
+    const range = [inU16("start", start), inU16("width", width)];
+    const ends = instance.withRoom(8 * rows, (at) => {
+      this.#call(name, ...before, ...range, BigInt(at), BigInt(rows), instance.first);
+      return Array.from({ length: rows }, (_, row) => wordOf(instance.view, at + 8 * row));
+    });
+    const starts = [0, ...ends];
+    return this._withText(0, (bytes, at) => ends.map((end, row) => textOf(bytes, at + starts[row], end - starts[row])));
+  }
+}
+
+for (const name of PROPERTIES) {
+  Object.defineProperty(Screen.prototype, name, {
+    get() {
+      return this.state[name];
+    },
+    configurable: true,
+  });
+}

@@ -1,0 +1,45 @@
+// Compiled, and not run: the declarations accept what they should, and reject the rest.
+import { CursorStyle, Repeat, Screen, load } from "../vt100.js";
+import type { Cell, Color, Mirror, Parser, Vt100 } from "../vt100.js";
+
+const vt100: Vt100 = await load(new URL("vt100.wasm", "https://example.org/"));
+await load(fetch("vt100.wasm"));
+const parser: Parser = new vt100.Parser(24, 80, {
+  scrollback: 10,
+  callbacks: {
+    setWindowTitle(screen, title) {
+      screen.contents();
+      title.subarray(1);
+    },
+    unhandledCsi: (_screen, _first, _second, params) => params[0]?.[0]?.toFixed(),
+  },
+});
+parser.process("x");
+parser.process(new Uint8Array(3));
+const cell: Cell | undefined = parser.cell(0, 0);
+const color: Color = parser.fgcolor;
+const saved: Screen = parser.save();
+const diff: string = parser.contentsDiffWith(saved, { scroll: true, repeat: Repeat.ANY });
+const isBar: boolean = parser.cursorStyle === CursorStyle.STEADY_VERTICAL_BAR;
+const isScreen: boolean = saved instanceof Screen && saved instanceof vt100.Screen;
+for (const [row, records] of parser.dirty()) new vt100.Cell(records, 40 * row);
+const mirror: Mirror = new vt100.Mirror();
+const viewer: bigint = mirror.join();
+const { text, size } = mirror.update(viewer);
+saved[Symbol.dispose]();
+console.log(cell?.text, color, diff, isBar, isScreen, text, size?.rows);
+
+// @ts-expect-error
+parser.process(7);
+// @ts-expect-error
+mirror.update(1);
+// @ts-expect-error
+new vt100.Parser("24");
+// @ts-expect-error
+new vt100.Screen();
+// @ts-expect-error
+parser.contentsDiffWith(saved, { repeat: 3 });
+// @ts-expect-error
+cell.text;
+// @ts-expect-error
+saved.process("x");

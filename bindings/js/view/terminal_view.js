@@ -1,0 +1,490 @@
+import { AccessibleText } from "./accessible_text.js";
+import { Blinker } from "./blinker.js";
+import { hasEqualCells } from "./cells.js";
+import { Painter } from "./painter.js";
+import { PointerSelection } from "./pointer_selection.js";
+import { RowStore } from "./row_store.js";
+import { Selection, wordAt } from "./selection.js";
+import { lineOf, textBetween } from "./selection_text.js";
+import { Theme } from "./theme.js";
+
+const STYLE = `
+  :host { display: block; overflow: hidden; outline-offset: 2px; cursor: text; background: ${Theme.dark.background}; }
+  :host([hidden]) { display: none; }
+  canvas { display: block; user-select: none; }
+  .accessible { position: absolute; width: 1px; height: 1px; overflow: hidden; clip-path: inset(50%); white-space: pre; }
+`;
+const SHAPES = { 1: "block", 2: "block", 3: "underline", 4: "underline", 5: "bar", 6: "bar" };
+const BLINKING = [1, 3, 5];
+const MIN_PIXELS = 4;
+const MAX_PIXELS = 400;
+
+/**
+ * An element that draws a screen on a canvas: `<vt100-view>`. Only rows that have changed since the last drawing are
+ * drawn. view.d.ts describes the interface.
+ */
+export class TerminalView extends HTMLElement {
+  static observedAttributes = ["font-size", "font-family", "line-height", "fit"];
+
+  #screen = null;
+  #theme = Theme.dark;
+  #canvas;
+  #painter;
+  #accessible;
+  #store = new RowStore();
+  #selection = new Selection();
+  #pointer;
+  #rows = 0;
+  #cols = 0;
+  #state = null;
+  /** What each row was drawn with, besides its cells. */
+  #drawnWith = [];
+  #fontInUse = "";
+  #usedScale = 0;
+  #isStale = true;
+  #frame = null;
+  #blinker = new Blinker(() => this.requestDraw());
+  #turned = 0;
+  #observer = new ResizeObserver(() => this.fit === "none" || this.#refit());
+  #density = null;
+
+  constructor() {
+    super();
+    const root = this.attachShadow({ mode: "open" }), style = document.createElement("style");
+    style.textContent = STYLE;
+    this.#canvas = document.createElement("canvas");
+    this.#canvas.setAttribute("aria-hidden", "true");
+    this.#accessible = new AccessibleText(document);
+    root.append(style, this.#canvas, this.#accessible.element);
+    this.#painter = new Painter(this.#canvas.getContext("2d", { alpha: false }));
+    this.#pointer = new PointerSelection(this.#pointerTarget());
+    this.#canvas.addEventListener("mousedown", (event) => this.#mouseDown(event));
+    this.addEventListener("wheel", (event) => this.#wheelTurned(event), { passive: false });
+    this.addEventListener("keydown", (event) => this.#keyDown(event));
+    this.addEventListener("copy", (event) => this.#copy(event));
+  }
+
+  connectedCallback() {
+    if (!this.hasAttribute("tabindex")) this.tabIndex = 0;
+    if (!this.hasAttribute("role")) this.setAttribute("role", "region");
+    if (!this.hasAttribute("aria-label")) this.setAttribute("aria-label", "Terminal");
+    this.#observer.observe(this);
+    this.#watchDensity();
+    this.#refit();
+  }
+
+  disconnectedCallback() {
+    this.#observer.disconnect();
+    this.#density?.removeEventListener("change", this.#densityChanged);
+    this.#density = null;
+    this.#blinker.isBlinking = false;
+    cancelAnimationFrame(this.#frame);
+    this.#frame = null;
+  }
+
+  attributeChangedCallback() {
+    if (this.isConnected) this.#refit();
+  }
+
+  // ---- the screen
+
+  get screen() {
+    return this.#screen;
+  }
+
+  attach(screen) {
+    this.clearSelection();
+    this.#pointer.reset();
+    this.#screen = screen;
+    this.#isStale = true;
+    this.#store.clear();
+    this.#state = null;
+    this.#refit();
+  }
+
+  detach() {
+    this.#screen = null;
+    this.#blinker.isBlinking = false;
+  }
+
+  /** Returns the state of the screen, or null if there is no screen to draw. */
+  #stateOfScreen() {
+    return this.#screen === null || this.#screen.isFreed ? null : this.#screen.state;
+  }
+
+  // ---- drawing
+
+  draw() {
+    return this.#drawChanges(false);
+  }
+
+  /** Draws what has changed. `isScrolled` is true if the view has scrolled the display, and nothing else has changed. */
+  #drawChanges(isScrolled) {
+    const state = this.#stateOfScreen();
+    if (state === null) return 0;
+    const isResized = state.rows !== this.#rows || state.cols !== this.#cols || this.#usedScale !== this.#scale();
+    if (this.#isStale || isResized) this.#prepare(state);
+    const changed = this.#store.read(this.#screen, state), before = this.#state;
+    this.#state = state;
+    if (before !== null && !isScrolled && changed.size > 0) this.#dropStaleSelection(before);
+    if (before?.cursorRow !== state.cursorRow || before.cursorCol !== state.cursorCol) this.#blinker.isLit = true;
+    let drawn = 0;
+    for (let row = 0; row < state.rows; row++) drawn += Number(this.#drawRow(row, changed.has(row)));
+    for (const row of changed) this.#accessible.update(row, this.#store.rowAt(row));
+    this.#blinker.isBlinking = this.isConnected && BLINKING.includes(state.cursorStyle) && !state.hideCursor;
+    const { scrollback, scrollbackLen } = state, isMoved = before?.scrollback !== scrollback;
+    if (isMoved || before.scrollbackLen !== scrollbackLen) this.#emit("scrollbackchange", { scrollback, scrollbackLen });
+    return drawn;
+  }
+
+  /** Draws a row if its cells, its selection or its cursor have changed. Returns whether it was drawn. */
+  #drawRow(row, hasChanged) {
+    const selected = this.#selection.columnsOf(row + this.#topRow(), this.#cols), cursor = this.#cursorOn(row);
+    const key = `${selected ?? ""};${cursor?.col ?? ""};${cursor?.shape ?? ""}`;
+    if (!hasChanged && this.#drawnWith[row] === key) return false;
+    this.#drawnWith[row] = key;
+    this.#painter.paintRow(row, this.#store.rowAt(row), selected, cursor);
+    return true;
+  }
+
+  /** Gives the canvas the size of the screen in the current font. */
+  #prepare({ rows, cols }) {
+    if (rows !== this.#rows || cols !== this.#cols) {
+      [this.#rows, this.#cols] = [rows, cols];
+      this.clearSelection();
+      this.#pointer.reset();
+      this.#accessible.resize(rows);
+    }
+    this.#setFont(this.#pixelsToUse());
+    this.#usedScale = this.#scale();
+    this.#painter.theme = this.#theme;
+    this.#painter.resize(rows, cols);
+    this.#canvas.style.width = `${cols * this.cellWidth}px`;
+    this.#canvas.style.height = `${rows * this.cellHeight}px`;
+    this.#drawnWith = [];
+    this.#isStale = false;
+  }
+
+  /** Returns the cursor on a displayed row, or null if it is elsewhere or not visible. */
+  #cursorOn(row) {
+    const { hideCursor, cursorRow, cursorCol, cursorStyle, scrollback } = this.#state;
+    if (hideCursor || cursorRow + scrollback !== row) return null;
+    if (BLINKING.includes(cursorStyle) && !this.#blinker.isLit) return null;
+    return { col: Math.min(cursorCol, this.#cols - 1), shape: SHAPES[cursorStyle] ?? this.cursorShape };
+  }
+
+  redraw() {
+    this.#isStale = true;
+    return this.draw();
+  }
+
+  requestDraw() {
+    if (!this.isConnected) return;
+    this.#frame ??= requestAnimationFrame(() => {
+      this.#frame = null;
+      this.draw();
+    });
+  }
+
+  // ---- font, size and theme
+
+  get theme() {
+    return this.#theme;
+  }
+
+  set theme(theme) {
+    this.#theme = theme instanceof Theme ? theme : new Theme(theme);
+    this.#isStale = true;
+    this.style.setProperty("background", this.#theme.background);
+    this.requestDraw();
+  }
+
+  get fontSize() {
+    return Number(this.getAttribute("font-size")) || 16;
+  }
+
+  set fontSize(size) {
+    this.setAttribute("font-size", size);
+  }
+
+  get fontFamily() {
+    return this.getAttribute("font-family") ?? '"DejaVu Sans Mono", Menlo, Consolas, monospace';
+  }
+
+  set fontFamily(family) {
+    this.setAttribute("font-family", family);
+  }
+
+  get lineHeight() {
+    return Number(this.getAttribute("line-height")) || 1;
+  }
+
+  set lineHeight(factor) {
+    this.setAttribute("line-height", factor);
+  }
+
+  get fit() {
+    const fit = this.getAttribute("fit");
+    return fit === "width" || fit === "both" ? fit : "none";
+  }
+
+  set fit(fit) {
+    this.setAttribute("fit", fit);
+  }
+
+  /** The shape of a cursor with the default style: "block", "underline" or "bar". */
+  cursorShape = "block";
+
+  get cellWidth() {
+    return this.#painter.cellWidth / this.#scale();
+  }
+
+  get cellHeight() {
+    return this.#painter.cellHeight / this.#scale();
+  }
+
+  get announces() {
+    return this.#accessible.announces;
+  }
+
+  set announces(announces) {
+    this.#accessible.announces = Boolean(announces);
+  }
+
+  sizeThatFits(width, height) {
+    this.#setFont(this.#pixelsToUse());
+    const count = (length, cell) => Math.min(Math.max(Math.floor(length / cell), 1), 65535);
+    return { rows: count(height, this.cellHeight), cols: count(width, this.cellWidth) };
+  }
+
+  #scale() {
+    return globalThis.devicePixelRatio || 1;
+  }
+
+  /** Measures the font in a size, unless it is the current one. */
+  #setFont(pixels) {
+    const key = `${pixels} ${this.lineHeight} ${this.fontFamily}`;
+    if (key === this.#fontInUse) return;
+    this.#fontInUse = key;
+    this.#painter.setFont(this.fontFamily, pixels, this.lineHeight);
+    this.#emit("cellsizechange", { cellWidth: this.cellWidth, cellHeight: this.cellHeight });
+  }
+
+  /** Returns the font size in device pixels: the given one, or the largest with which the screen fits. */
+  #pixelsToUse() {
+    const given = Math.max(1, Math.round(this.fontSize * this.#scale()));
+    const width = this.clientWidth * this.#scale(), height = this.clientHeight * this.#scale();
+    if (this.fit === "none" || width === 0 || (this.fit === "both" && height === 0)) return given;
+    let low = MIN_PIXELS, high = MAX_PIXELS;
+    while (low < high) {
+      const middle = Math.ceil((low + high) / 2);
+      if (this.#fitsIn(middle, width, this.fit === "both" ? height : Infinity)) low = middle;
+      else high = middle - 1;
+    }
+    return low;
+  }
+
+  #fitsIn(pixels, width, height) {
+    this.#painter.setFont(this.fontFamily, pixels, this.lineHeight);
+    this.#fontInUse = "";
+    return this.#cols * this.#painter.cellWidth <= width && this.#rows * this.#painter.cellHeight <= height;
+  }
+
+  #refit() {
+    const state = this.#stateOfScreen();
+    if (state === null) return;
+    this.#isStale = true;
+    this.requestDraw();
+  }
+
+  #densityChanged = () => {
+    this.#watchDensity();
+    this.#refit();
+  };
+
+  /** Waits for another ratio of device pixels, as when the window moves to another monitor. */
+  #watchDensity() {
+    this.#density?.removeEventListener("change", this.#densityChanged);
+    this.#density = globalThis.matchMedia(`(resolution: ${this.#scale()}dppx)`);
+    this.#density.addEventListener("change", this.#densityChanged);
+  }
+
+  // ---- scrollback
+
+  /** Returns the number of the first displayed row, counted from the oldest scrollback row. */
+  #topRow() {
+    return this.#state.scrollbackLen - this.#state.scrollback;
+  }
+
+  scrollRows(count) {
+    this.draw();
+    const state = this.#stateOfScreen();
+    if (state === null) return;
+    this.#screen.setScrollback(Math.min(Math.max(state.scrollback + count, 0), state.scrollbackLen));
+    this.#drawChanges(true);
+  }
+
+  #emit(type, detail) {
+    this.dispatchEvent(new CustomEvent(type, { detail }));
+  }
+
+  #wheelTurned(event) {
+    const state = this.#stateOfScreen();
+    if (state === null || event.ctrlKey || this.#isForProgram(event, state)) return;
+    const unit = [1 / this.cellHeight, 1, this.#rows][event.deltaMode];
+    const all = this.#turned + event.deltaY * unit, count = Math.trunc(all);
+    this.#turned = all - count;
+    const canScroll = event.deltaY < 0 ? state.scrollback < state.scrollbackLen : state.scrollback > 0;
+    if (!canScroll) return;
+    event.preventDefault();
+    if (count !== 0) this.scrollRows(-count);
+  }
+
+  #keyDown(event) {
+    if (!event.shiftKey || event.ctrlKey || event.altKey || event.metaKey || event.defaultPrevented) return;
+    const count = { PageUp: this.#rows, PageDown: -this.#rows, Home: Infinity, End: -Infinity }[event.key];
+    if (count === undefined || !this.#state?.scrollbackLen) return;
+    event.preventDefault();
+    this.scrollRows(count);
+  }
+
+  // ---- selection
+
+  /** Whether the page sends mouse events to the program that requests them. With Shift, they are still the view's. */
+  mouseReporting = false;
+
+  #isForProgram({ shiftKey }, state) {
+    return this.#isReporting(state) && !shiftKey;
+  }
+
+  #isReporting({ mouseProtocolMode }) {
+    return this.mouseReporting && mouseProtocolMode !== 0;
+  }
+
+  get selectedRange() {
+    return this.#selection.range;
+  }
+
+  get selectedText() {
+    const range = this.#selection.range;
+    return range === null || this.#stateOfScreen() === null ? "" : textBetween(this.#screen, range.start, range.end);
+  }
+
+  select(start, end) {
+    // Otherwise, what has changed since the last drawing would clear the selection.
+    this.draw();
+    this.#setSelection(start, end);
+  }
+
+  #setSelection(start, end) {
+    this.#selection.set(start, end);
+    this.#selectionChanged();
+  }
+
+  selectAll() {
+    const state = this.#stateOfScreen();
+    if (state === null) return;
+    this.select({ row: 0, col: 0 }, { row: state.scrollbackLen + state.rows - 1, col: state.cols });
+  }
+
+  clearSelection() {
+    if (this.#selection.isEmpty) return;
+    this.#selection.clear();
+    this.#selectionChanged();
+  }
+
+  #selectionChanged() {
+    this.requestDraw();
+    this.#emit("selectionchange", { range: this.#selection.range });
+  }
+
+  /** Clears the selection if its text may have changed. */
+  #dropStaleSelection(before) {
+    if (this.#selection.isEmpty) return;
+    const { alternateScreen, scrollbackLen, scrollbackCapacity } = this.#state;
+    const isOther = before.alternateScreen !== alternateScreen || scrollbackLen < before.scrollbackLen;
+    // Once scrollback is full, rows are dropped, and the numbers of the others change.
+    const isUncertain = scrollbackLen === scrollbackCapacity && !this.#isSelectionDisplayed();
+    if (isOther || isUncertain || this.#hasSelectionChanged(before)) this.clearSelection();
+  }
+
+  #isSelectionDisplayed() {
+    const { start, end } = this.#selection.range, top = this.#topRow();
+    return start.row >= top && end.row < top + this.#rows;
+  }
+
+  /** Returns whether selected cells that were and are displayed have changed. */
+  #hasSelectionChanged(before) {
+    const top = this.#topRow(), moved = top - (before.scrollbackLen - before.scrollback);
+    for (let row = 0; row < this.#rows; row++) {
+      const columns = this.#selection.columnsOf(row + top, this.#cols), earlier = row + moved;
+      if (columns === null || earlier < 0 || earlier >= this.#rows) continue;
+      if (!hasEqualCells(this.#store.rowAt(row), this.#store.rowBefore(earlier), ...columns)) return true;
+    }
+    return false;
+  }
+
+  /** Returns a point of the window as a row and a column of the display, which may have fractions or be outside. */
+  #gridPoint(clientX, clientY) {
+    const { left, top } = this.#canvas.getBoundingClientRect();
+    return { row: (clientY - top) / this.cellHeight, col: (clientX - left) / this.cellWidth };
+  }
+
+  cellAt(clientX, clientY) {
+    const point = this.#gridPoint(clientX, clientY), row = Math.floor(point.row), col = Math.floor(point.col);
+    return row >= 0 && row < this.#rows && col >= 0 && col < this.#cols ? { row, col } : null;
+  }
+
+  /** Returns what a click, double click or triple click at a point selects. */
+  #unitAt(x, y, clicks) {
+    const point = this.#gridPoint(x, y), shown = Math.min(Math.max(Math.floor(point.row), 0), this.#rows - 1);
+    const row = shown + this.#topRow(), col = Math.min(Math.max(point.col, 0), this.#cols);
+    if (clicks === 1) {
+      const position = { row, col: Math.round(col) };
+      return { start: position, end: position };
+    }
+    if (clicks === 2) {
+      const { start, end } = wordAt(this.#store.rowAt(shown), this.#cols, Math.floor(col));
+      return { start: { row, col: start }, end: { row, col: end } };
+    }
+    const { first, last } = lineOf(this.#screen, row);
+    return { start: { row: first, col: 0 }, end: { row: last, col: this.#cols } };
+  }
+
+  #pointerTarget() {
+    return {
+      unitAt: (x, y, clicks) => this.#unitAt(x, y, clicks),
+      rowsBeyond: (y) => {
+        const { row } = this.#gridPoint(0, y);
+        return row < 0 ? Math.floor(row) : Math.ceil(Math.max(row - this.#rows, 0));
+      },
+      select: (start, end) => this.#setSelection(start, end),
+      clearSelection: () => this.clearSelection(),
+      scrollRows: (count) => this.scrollRows(count),
+    };
+  }
+
+  #mouseDown(event) {
+    const state = this.#stateOfScreen();
+    if (state === null || this.#state === null || event.button !== 0 || this.#isForProgram(event, state)) return;
+    // The default action would select the text around the element.
+    event.preventDefault();
+    this.focus({ preventScroll: true });
+    // While events go to the program, Shift means that they are the view's.
+    this.#pointer.begin(event, event.shiftKey && !this.#isReporting(state));
+    const move = (moved) => this.#pointer.move(moved);
+    const end = () => {
+      this.#pointer.end();
+      removeEventListener("mousemove", move);
+      removeEventListener("mouseup", end);
+    };
+    addEventListener("mousemove", move);
+    addEventListener("mouseup", end);
+  }
+
+  #copy(event) {
+    if (this.#selection.isEmpty) return;
+    event.clipboardData.setData("text/plain", this.selectedText);
+    event.preventDefault();
+  }
+}
