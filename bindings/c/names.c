@@ -12,7 +12,9 @@ const char *vt100_status_text(vt100_status status) {
     case VT100_OK: return "done";
     case VT100_OUT_OF_MEMORY: return "out of memory";
     case VT100_FAILED: return "the parser or mirror ran out of memory in an earlier call";
-    case VT100_BAD_ARGUMENT: return "bad argument";
+    case VT100_BAD_ARGUMENT:
+        return "bad argument: zero rows or columns; no such row, column, cell, event, viewer or "
+               "position in the text; not enough room; or the same handle twice";
     case VT100_WRONG_KIND: return "the handle holds an object of a different kind";
     case VT100_OTHER_SIZE: return "the screens have different sizes";
     case VT100_NO_OBJECT: return "the handle is empty";

@@ -85,12 +85,12 @@
  *     vt100 whose behavior the library reproduces.
  *
  * RUNNING A PROGRAM
- *     The library runs on Linux with glibc, on processors of level x86-64-v2 (SSE4.2 and POPCNT,
- *     available since about 2009). On older processors, programs are killed by SIGILL. A program
- *     linked to libvt100.a needs no other files of this library. A program linked to libvt100.so
- *     needs libvt100.so.MAJOR where the dynamic linker finds it: in a system directory, in a
- *     directory in LD_LIBRARY_PATH, or in one that was specified when linking
- *     (-Wl,-rpath,DIRECTORY).
+ *     The library runs on Linux with glibc, on 64-bit ARM processors (aarch64), and on x86-64
+ *     processors of level x86-64-v2 (SSE4.2 and POPCNT, available since about 2009). On older
+ *     processors, programs are killed by SIGILL. A program linked to libvt100.a needs no other
+ *     files of this library. A program linked to libvt100.so needs libvt100.so.MAJOR where the
+ *     dynamic linker finds it: in a system directory, in a directory in LD_LIBRARY_PATH, or in one
+ *     that was specified when linking (-Wl,-rpath,DIRECTORY).
  *
  * RETURN VALUE
  *     Most functions return a status. If it is not VT100_OK, no results are stored and nothing has
@@ -443,6 +443,35 @@ vt100_status vt100_cursor_state_formatted(vt100_handle *handle, size_t *len);
 
 /* Generates the part of a redraw that sets the attributes of the next character. */
 vt100_status vt100_attributes_formatted(vt100_handle *handle, size_t *len);
+
+/*
+ * Sequences to write once to a real terminal before its first redraw. A redraw takes it for granted
+ * that a terminal is as after a reset. These sequences end an unfinished string, and select UTF-8,
+ * ASCII in G0 to G3, the full scroll region without left and right margins, replace mode, automatic
+ * wrap, line feeds that keep the column, a normal screen (not reverse video), and tab stops at
+ * every eighth column of the first 320. They move the cursor, and draw nothing. Write them again when the
+ * terminal's width has changed.
+ *
+ * They are no redraw, and nothing is proved about them. vt100_process reports some of them as
+ * unhandled. The terminal must also erase with the current background (bce), which no sequence can
+ * select.
+ */
+#define VT100_TERMINAL_SETUP                                                                       \
+    "\x1b\\\x1b%G\x1b(B\x1b)B\x1b*B\x1b+B\x0f\x1b[?69l\x1b[r\x1b[?6l\x1b[4l\x1b[20l"                     \
+    "\x1b[?7h\x1b[?45l\x1b[?5l\x1b[3g\r" VT100_20_TAB_STOPS VT100_20_TAB_STOPS "\r"
+#define VT100_20_TAB_STOPS                                                                         \
+    VT100_5_TAB_STOPS VT100_5_TAB_STOPS VT100_5_TAB_STOPS VT100_5_TAB_STOPS
+#define VT100_5_TAB_STOPS "\x1b[8C\x1bH\x1b[8C\x1bH\x1b[8C\x1bH\x1b[8C\x1bH\x1b[8C\x1bH"
+
+/*
+ * Sequences to write to a real terminal when no more output follows. They undo what redraws and
+ * vt100_input_mode_formatted can leave set: they select default attributes, show the cursor, and
+ * reset the input modes (keypad, cursor keys, bracketed paste, mouse) and the cursor style. They
+ * leave the text and the cursor's position as they are.
+ */
+#define VT100_TERMINAL_RESTORE                                                                     \
+    "\x1b[m\x1b[?25h\x1b>\x1b[?1l\x1b[?2004l\x1b[?9l\x1b[?1000l\x1b[?1002l\x1b[?1003l"                  \
+    "\x1b[?1005l\x1b[?1006l\x1b[0 q"
 
 /*
  * Generates the sequences that set the input modes: keypad, cursor keys, bracketed paste, mouse and

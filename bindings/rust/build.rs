@@ -1,9 +1,9 @@
 //! Finds the library and links it.
 //!
 //! The library is searched for in the folder that `VT100_LIB_DIR` names. If that variable is not
-//! set, it is searched for in the folder `lib` of this package, and then with pkg-config. If a
-//! folder has both the archive and the shared object, the archive is linked, so that a program
-//! needs no other files at run time.
+//! set, it is searched for in the folder of this package for the target's processor, such as
+//! `lib/x86_64`, and then with pkg-config. If a folder has both the archive and the shared object,
+//! the archive is linked, so that a program needs no other files at run time.
 
 use std::env;
 use std::path::{Path, PathBuf};
@@ -52,12 +52,13 @@ fn checked(folder: PathBuf) -> Result<PathBuf, String> {
     Ok(folder)
 }
 
-/// Returns the folder of the archive that a prepared package contains, if there is one and it is
-/// for this target.
+/// Returns the folder of the archive for this target that a prepared package contains, if there is
+/// one.
 fn packaged_dir() -> Option<PathBuf> {
-    let is = |name: &str, value: &str| env::var(name).as_deref() == Ok(value);
-    let folder = Path::new(&env::var_os("CARGO_MANIFEST_DIR")?).join("lib");
-    let fits = is("CARGO_CFG_TARGET_ARCH", "x86_64") && is("CARGO_CFG_TARGET_OS", "linux");
+    let processor = env::var("CARGO_CFG_TARGET_ARCH").ok()?;
+    let package = PathBuf::from(env::var_os("CARGO_MANIFEST_DIR")?);
+    let folder = package.join("lib").join(processor);
+    let fits = env::var("CARGO_CFG_TARGET_OS").as_deref() == Ok("linux");
     (fits && folder.join(ARCHIVE).is_file()).then_some(folder)
 }
 

@@ -375,6 +375,7 @@ static void names(void) {
         }
     }
     must(strcmp(vt100_status_text(255), vt100_status_text(VT100_NO_NUMBER + 1)) == 0);
+    must(strstr(vt100_status_text(VT100_BAD_ARGUMENT), "viewer") != NULL);
 }
 
 int main(void) {

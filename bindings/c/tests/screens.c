@@ -216,6 +216,27 @@ static void pending(void) {
     vt100_free(&parser);
 }
 
+/* The sequences for real terminals select the full scroll region, and reset all input modes. */
+static void terminals(void) {
+    static const char *const modes[] = {"9", "1000", "1002", "1003", "1005", "1006"};
+    char mode[16];
+    size_t len = 99;
+    vt100_handle parser = made(3, 10, 0), fresh = made(3, 10, 0);
+    read_into(&parser, "ab\x1b[2;3r\x1b[?6h\x1b]2;title" VT100_TERMINAL_SETUP);
+    read_into(&parser, "cd\x1b[3;1H\n");
+    must(has_contents(&parser, ""));
+    read_into(&parser, "\x1b[H");
+    for (size_t i = 0; i < sizeof modes / sizeof *modes; i++) {
+        snprintf(mode, sizeof mode, "\x1b[?%sh", modes[i]);
+        read_into(&parser, "\x1b[1;31m\x1b[?25l\x1b=\x1b[?1;2004h\x1b[5 q");
+        read_into(&parser, mode);
+        read_into(&parser, VT100_TERMINAL_RESTORE);
+        must(vt100_state_diff(&parser, &fresh, &len) == VT100_OK && len == 0);
+    }
+    vt100_free(&parser);
+    vt100_free(&fresh);
+}
+
 /* The version of the library is that of the header. */
 static void version(void) {
     char text[16];
@@ -230,6 +251,7 @@ int main(void) {
     repeated();
     repeated_ascii();
     pending();
+    terminals();
     version();
     must(heap_live == 0);
     return 0;

@@ -4,8 +4,8 @@
 //!
 //! The items are those of the crate `vt100` 0.18.1, with the addition of [`mirror`],
 //! [`DiffOptions`], [`Repeat`], [`Parser::pending_len`], [`Screen::contents_diff_scrolling`],
-//! [`Screen::contents_diff_with`], [`Screen::is_steady`] and [`Screen::shown_copy`]. This crate
-//! wraps a formally verified library.
+//! [`Screen::contents_diff_with`], [`Screen::is_steady`], [`Screen::shown_copy`],
+//! [`TERMINAL_SETUP`] and [`TERMINAL_RESTORE`]. This crate wraps a formally verified library.
 //!
 //! # Synopsis
 //!
@@ -55,6 +55,7 @@ mod modes;
 mod parser;
 mod repeat;
 mod screen;
+mod terminal;
 mod texts;
 
 pub use callbacks::Callbacks;
@@ -65,3 +66,4 @@ pub use modes::{CursorStyle, MouseProtocolEncoding, MouseProtocolMode};
 pub use parser::Parser;
 pub use repeat::Repeat;
 pub use screen::Screen;
+pub use terminal::{TERMINAL_RESTORE, TERMINAL_SETUP};

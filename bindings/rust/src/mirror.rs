@@ -152,3 +152,9 @@ fn update_of(((rows, cols), text): ((u16, u16), String)) -> Update {
         _ => Update::Diff(text),
     }
 }
+
+impl std::fmt::Debug for Mirror {
+    fn fmt(&self, f: &mut std::fmt::Formatter<'_>) -> std::fmt::Result {
+        f.debug_struct("Mirror").finish_non_exhaustive()
+    }
+}

@@ -158,3 +158,10 @@ fn a_viewer_is_current_until_the_mirror_reads_or_is_resized() {
     assert!(mirror.is_current(viewer));
     assert!(mirror.leave(viewer) && !mirror.is_current(viewer));
 }
+
+#[test]
+fn a_mirror_has_a_debug_form() {
+    let size = |number| std::num::NonZeroU16::new(number).unwrap();
+    let mirror = vt100::mirror::Mirror::new(size(3), size(20), 0);
+    assert_eq!(format!("{mirror:?}"), "Mirror { .. }");
+}

@@ -280,3 +280,22 @@ fn the_bytes_of_an_unfinished_command_are_counted() {
     parser.process(b"\x07");
     assert_eq!(parser.pending_len(), 0);
 }
+
+#[test]
+fn a_terminal_is_set_up_and_left() {
+    let mut parser = Parser::new(size(3), size(10), 0);
+    parser.process(b"ab\x1b[2;3r\x1b[?6h\x1b]2;title");
+    parser.process(vt100::TERMINAL_SETUP.as_bytes());
+    // The region is the whole page again: the first row scrolls off.
+    parser.process(b"cd\x1b[3;1H\n");
+    assert_eq!(parser.screen().contents(), "");
+    let count = |text| vt100::TERMINAL_SETUP.matches(text).count();
+    assert_eq!((count("\x1b[8C\x1bH"), count("\x1bH")), (40, 40));
+    let fresh = parser.screen().clone();
+    for number in [9, 1000, 1002, 1003, 1005, 1006] {
+        parser.process(b"\x1b[1;31m\x1b[?25l\x1b=\x1b[?1;2004h\x1b[5 q");
+        parser.process(format!("\x1b[?{number}h").as_bytes());
+        parser.process(vt100::TERMINAL_RESTORE.as_bytes());
+        assert_eq!(parser.screen().state_diff(&fresh), "", "{number}");
+    }
+}
