@@ -18,7 +18,8 @@ use Rattle.vt_cells.specs.Op.{Print, bytes_of_all}
 use Rattle.vt_cells.proofs.Glyphs.{IsGlyphText-length}
 use Rattle.vt_rows.specs.Cells.{at}
 use Rattle.vt_redraw.specs.Internals.{IsAlike, IsRange, Leads, cells_from}
-use Rattle.vt_redraw.specs.Script.{Scripted, attr_ops, move_ops, pen_at, placed_op, wrapped_after_glyph}
+use Rattle.vt_redraw.specs.Script.{Scripted, attr_ops_in, move_ops, pen_in, placed_op, wrapped_after_glyph}
+use Rattle.vt_redraw.specs.declared.form.Form.{Form}
 use Rattle.vt_redraw.specs.declared.pen.Pen.{Pen}
 use Rattle.vt_redraw.proofs.CellSteps.{glyph_inside, glyph_leads, leads_then}
 use Rattle.vt_redraw.proofs.Writing.{change_none, going_none}
@@ -107,16 +108,16 @@ alike_other c like own others xs ys alike some is_own is_others blanks inside =
 -- ---- the output of a glyph at the pen
 
 -- A glyph at the pen with the pen's attributes is written as its text alone.
-printed_again : (r c : ℕ) (a : Attrs) (text : List ℕ) →
-    bytes_of_all (placed_op (pen_at r c a) r c a (Print text)) ≡ text
-printed_again r c a text =
-    let moves = move_ops (pen_at r c a) r c in
-    let changes = attr_ops a a in
+printed_again : (form : Form) (r c : ℕ) (a : Attrs) (text : List ℕ) →
+    bytes_of_all (placed_op (pen_in form r c a) r c a (Print text)) ≡ text
+printed_again form r c a text =
+    let moves = move_ops (pen_in form r c a) r c in
+    let changes = attr_ops_in form a a in
     bytes_of_all-append moves (changes ++ Print text ∷ [])
     ∙ (ap (λ (bytes : List ℕ). bytes ++ bytes_of_all (changes ++ Print text ∷ []))
-    (going_none (pen_at r c a) r c (rw (itself r, itself c) refl))
+    (going_none (pen_in form r c a) r c (rw (itself r, itself c) refl))
     ∙ (bytes_of_all-append changes (Print text ∷ [])
-    ∙ (ap (λ (bytes : List ℕ). bytes ++ bytes_of_all (Print text ∷ [])) (change_none a a (same_attrs-itself a))
+    ∙ (ap (λ (bytes : List ℕ). bytes ++ bytes_of_all (Print text ∷ [])) (change_none form a a (same_attrs-itself a))
     ∙ append-nil text)))
 
 gathered_more : (text old more : List ℕ) → buffered_text text (old ++ more) ≡ buffered_text text old ++ more
@@ -124,31 +125,31 @@ unfolding buffered_text
 gathered_more text old more = sym (append_assoc text old more)
 
 -- Buffering the text of a glyph that looks like the one before the pen leads on.
-pub alike_leads : (r c n : ℕ) (a : Attrs) (flag then : Bool) (like : CellValue) (own others xs ys : List CellValue)
+pub alike_leads : (form : Form) (r c n : ℕ) (a : Attrs) (flag then : Bool) (like : CellValue) (own others xs ys : List CellValue)
     (text old new : List ℕ) → IsAlike c like own others → 0 < length (text_of like) → a ≡ attrs_of like →
     own ≡ take (length own) xs → length own ≤ length xs → others ≡ take (length others) ys →
     All (λ cell. is_blank cell ≡ true) (drop (length others) ys) → length xs ≤ length ys →
     n ≡ glyph_columns (is_wide like) → new ≡ old ++ text_of (at own c) →
     then ≡ wrapped_after_glyph flag (is_wide like) (drop (c + n) ys) →
-    Leads (buffered_text text new) (cells_from r (c + n) (pen_at r (c + n) a) then xs ys)
-    (buffered_text text old) (cells_from r c (pen_at r c a) flag xs ys)
-alike_leads r c n a flag then like own others xs ys text old new alike some drawn is_own inside is_others blanks le
+    Leads (buffered_text text new) (cells_from r (c + n) (pen_in form r (c + n) a) then xs ys)
+    (buffered_text text old) (cells_from r c (pen_in form r c a) flag xs ys)
+alike_leads form r c n a flag then like own others xs ys text old new alike some drawn is_own inside is_others blanks le
     count pushed flags =
     let x = at own c in
     let attrs : a ≡ attrs_of x = drawn ∙ sym (ap (λ head. head.attrs) alike.head) in
     let wide : is_wide x ≡ is_wide like = ap (λ head. head.shape.wide) alike.head in
     let columns : n ≡ glyph_columns (is_wide x) = count ∙ ap glyph_columns (sym wide) in
     let within = alike.inside in
-    glyph_leads r c n (pen_at r c a) (pen_at r (c + n) a) flag then xs ys x
+    glyph_leads r c n (pen_in form r c a) (pen_in form r (c + n) a) flag then xs ys x
     (buffered_text text old) (buffered_text text new) (own_at c own xs is_own alike.inside)
     (omega arith) le (alike_other c like own others xs ys alike some is_own is_others blanks (omega arith))
     (text_not_blank x (alike_text c like own others alike some)) columns
     (ap (buffered_text text) pushed
     ∙ (gathered_more text old (text_of x)
     ∙ ap (λ (more : List ℕ). buffered_text text old ++ more)
-    (sym (ap (λ (b : Attrs). bytes_of_all (placed_op (pen_at r c a) r c b (Print (text_of x)))) (sym attrs)
-    ∙ printed_again r c a (text_of x)))))
-    (ap (λ (k : ℕ). pen_at r (c + k) a) columns ∙ ap (λ (b : Attrs). pen_at r (c + glyph_columns (is_wide x)) b) attrs)
+    (sym (ap (λ (b : Attrs). bytes_of_all (placed_op (pen_in form r c a) r c b (Print (text_of x)))) (sym attrs)
+    ∙ printed_again form r c a (text_of x)))))
+    (ap (λ (k : ℕ). pen_in form r (c + k) a) columns ∙ ap (λ (b : Attrs). pen_in form r (c + glyph_columns (is_wide x)) b) attrs)
     (flags ∙ ap (λ (w : Bool). wrapped_after_glyph flag w (drop (c + n) ys)) (sym wide))
 
 -- A narrow glyph leaves the wrapped flag unchanged.

@@ -17,7 +17,7 @@ use Rattle.vt_cells.proofs.SameCells.{same_cell-itself}
 use Rattle.vt_redraw.specs.Internals.{Leads, IsRange, Passes, cells_from}
 use Rattle.vt_redraw.proofs.Filling.{room}
 use Rattle.vt_cells.specs.Glyph.{glyph_columns}
-use Rattle.vt_redraw.specs.Script.{Scripted, ops_then, no_ops, placed_op, pen_at, blank_run}
+use Rattle.vt_redraw.specs.Script.{Scripted, ops_then, no_ops, placed_op, blank_run, pen_in}
 use Rattle.vt_redraw.specs.Script.{cells_written, erase_run, wrapped_after_erasure, wrapped_after_glyph}
 use Rattle.vt_redraw.specs.declared.pen.Pen.{Pen}
 
@@ -105,7 +105,7 @@ glyph_printed : (r c : ℕ) (pen : Pen) (flag : Bool) (x : CellValue)
     (is_right_half x || same_cell x y) ≡ false → is_blank x ≡ false →
     cells_written r c pen flag 0 (x ∷ xs) (y ∷ ys)
     ≡ ops_then (placed_op pen r c (attrs_of x) (Print (text_of x)))
-    (cells_written r (c + glyph_columns (is_wide x)) (pen_at r (c + glyph_columns (is_wide x)) (attrs_of x))
+    (cells_written r (c + glyph_columns (is_wide x)) (pen_in pen.form r (c + glyph_columns (is_wide x)) (attrs_of x))
     (wrapped_after_glyph flag (is_wide x) (drop (glyph_columns (is_wide x)) (y ∷ ys))) 0
     (drop (glyph_columns (is_wide x)) (x ∷ xs)) (drop (glyph_columns (is_wide x)) (y ∷ ys)))
 unfolding cells_written
@@ -115,9 +115,9 @@ glyph_printed r c pen flag (glyph text false a) xs y ys h b = cond-false (same_c
 glyph_printed r c pen flag (glyph text true a) xs y ys h b =
     cond-false (same_cell (glyph text true a) y) _ _ h
     ∙ ap (ops_then (placed_op pen r c a (Print text)))
-    (settled_passed r (c + 1) (pen_at r (c + 2) a) (wrapped_after_glyph flag true (drop 1 ys)) 1 xs ys
+    (settled_passed r (c + 1) (pen_in pen.form r (c + 2) a) (wrapped_after_glyph flag true (drop 1 ys)) 1 xs ys
     ∙ ap
-    (λ (n : ℕ). cells_written r n (pen_at r (c + 2) a) (wrapped_after_glyph flag true (drop 1 ys)) 0 (drop 1 xs) (drop 1 ys))
+    (λ (n : ℕ). cells_written r n (pen_in pen.form r (c + 2) a) (wrapped_after_glyph flag true (drop 1 ys)) 0 (drop 1 xs) (drop 1 ys))
     (omega arith))
 
 run_first : (a : Attrs) (xs : List CellValue) → blank_run a (blank a ∷ xs) ≡ suc (blank_run a xs)
@@ -127,7 +127,7 @@ run_here : (r c : ℕ) (pen : Pen) (flag : Bool) (a : Attrs) (xs : List CellValu
     same_cell (blank a) y ≡ false →
     cells_written r c pen flag 0 (blank a ∷ xs) (y ∷ ys)
     ≡ ops_then (placed_op pen r c a (erase_run (suc (blank_run a xs)) (drop (blank_run a xs) ys)))
-    (cells_written r (c + suc (blank_run a xs)) (pen_at r c a)
+    (cells_written r (c + suc (blank_run a xs)) (pen_in pen.form r c a)
     (wrapped_after_erasure flag (drop (blank_run a xs) ys)) 0 (drop (blank_run a xs) xs) (drop (blank_run a xs) ys))
 unfolding cells_written
 run_here r c pen flag a xs y ys h =
@@ -135,8 +135,8 @@ run_here r c pen flag a xs y ys h =
     let f = wrapped_after_erasure flag (drop n ys) in
     cond-false (same_cell (blank a) y) _ _ h
     ∙ ap (ops_then (placed_op pen r c a (erase_run (suc n) (drop n ys))))
-    (settled_passed r (c + 1) (pen_at r c a) f n xs ys
-    ∙ ap (λ (k : ℕ). cells_written r k (pen_at r c a) f 0 (drop n xs) (drop n ys)) (omega arith))
+    (settled_passed r (c + 1) (pen_in pen.form r c a) f n xs ys
+    ∙ ap (λ (k : ℕ). cells_written r k (pen_in pen.form r c a) f 0 (drop n xs) (drop n ys)) (omega arith))
 
 blank_is : (x : CellValue) → is_blank x ≡ true → x ≡ blank (attrs_of x)
 blank_is (blank a) h = refl
@@ -148,13 +148,13 @@ run_erased : (r c : ℕ) (pen : Pen) (flag : Bool) (x : CellValue)
     (is_right_half x || same_cell x y) ≡ false → is_blank x ≡ true → n ≡ blank_run (attrs_of x) (x ∷ xs) →
     cells_written r c pen flag 0 (x ∷ xs) (y ∷ ys)
     ≡ ops_then (placed_op pen r c (attrs_of x) (erase_run n (drop n (y ∷ ys))))
-    (cells_written r (c + n) (pen_at r c (attrs_of x))
+    (cells_written r (c + n) (pen_in pen.form r c (attrs_of x))
     (wrapped_after_erasure flag (drop n (y ∷ ys))) 0 (drop n (x ∷ xs)) (drop n (y ∷ ys)))
 run_erased r c pen flag (blank a) xs y ys n h b count =
     let e : suc (blank_run a xs) ≡ n = sym (count ∙ run_first a xs) in
     run_here r c pen flag a xs y ys h
     ∙ ap (λ (m : ℕ). ops_then (placed_op pen r c a (erase_run m (drop m (y ∷ ys))))
-    (cells_written r (c + m) (pen_at r c a) (wrapped_after_erasure flag (drop m (y ∷ ys)))
+    (cells_written r (c + m) (pen_in pen.form r c a) (wrapped_after_erasure flag (drop m (y ∷ ys)))
     0 (drop m (blank a ∷ xs)) (drop m (y ∷ ys))))
     e
 run_erased r c pen flag (glyph text wide a) xs y ys n h b count = absurd cc
@@ -228,7 +228,7 @@ pub next_glyph : (r c n : ℕ) (pen next : Pen) (flag then : Bool) (xs ys : List
     (is_right_half (at xs c) || same_cell (at xs c) (at ys c)) ≡ false →
     is_blank (at xs c) ≡ false → n ≡ glyph_columns (is_wide (at xs c)) →
     longer ≡ text ++ bytes_of_all (placed_op pen r c (attrs_of (at xs c)) (Print (text_of (at xs c)))) →
-    next ≡ pen_at r (c + glyph_columns (is_wide (at xs c))) (attrs_of (at xs c)) →
+    next ≡ pen_in pen.form r (c + glyph_columns (is_wide (at xs c))) (attrs_of (at xs c)) →
     then ≡ wrapped_after_glyph flag (is_wide (at xs c)) (drop (c + n) ys) →
     Leads longer (cells_from r (c + n) next then xs ys) text (cells_from r c pen flag xs ys)
 next_glyph r c n pen next flag then xs ys text longer h le other b count told pens flags =
@@ -239,11 +239,11 @@ next_glyph r c n pen next flag then xs ys text longer h le other b count told pe
     (at_column r c pen flag xs ys h le
     ∙ (glyph_printed r c pen flag x (drop (c + 1) xs) (at ys c) (drop (c + 1) ys) other b
     ∙ (ap (λ (zs : List CellValue). ops_then ops
-    (cells_written r (c + m) (pen_at r (c + m) (attrs_of x))
+    (cells_written r (c + m) (pen_in pen.form r (c + m) (attrs_of x))
     (wrapped_after_glyph flag (is_wide x) (drop m (at ys c ∷ drop (c + 1) ys))) 0 zs (drop m (at ys c ∷ drop (c + 1) ys))))
     (behind c m xs h)
     ∙ (ap (λ (zs : List CellValue). ops_then ops
-    (cells_written r (c + m) (pen_at r (c + m) (attrs_of x)) (wrapped_after_glyph flag (is_wide x) zs) 0 (drop (c + m) xs) zs))
+    (cells_written r (c + m) (pen_in pen.form r (c + m) (attrs_of x)) (wrapped_after_glyph flag (is_wide x) zs) 0 (drop (c + m) xs) zs))
     (behind c m ys (omega arith))
     ∙ (ap (λ (p : Pen). ops_then ops
     (cells_written r (c + m) p (wrapped_after_glyph flag (is_wide x) (drop (c + m) ys)) 0 (drop (c + m) xs) (drop (c + m) ys)))
@@ -259,7 +259,7 @@ pub next_run : (r c n : ℕ) (pen next : Pen) (flag then : Bool)
     c < length xs → length xs ≤ length ys →
     (is_right_half (at xs c) || same_cell (at xs c) (at ys c)) ≡ false →
     is_blank (at xs c) ≡ true → a ≡ attrs_of (at xs c) → n ≡ blank_run a (drop c xs) →
-    longer ≡ text ++ bytes_of_all (placed_op pen r c a (erase_run n (drop (c + n) ys))) → next ≡ pen_at r c a →
+    longer ≡ text ++ bytes_of_all (placed_op pen r c a (erase_run n (drop (c + n) ys))) → next ≡ pen_in pen.form r c a →
     then ≡ wrapped_after_erasure flag (drop (c + n) ys) →
     Leads longer (cells_from r (c + n) next then xs ys) text (cells_from r c pen flag xs ys)
 next_run r c n pen next flag then xs ys a text longer h le other b same count told pens flags =
@@ -272,15 +272,15 @@ next_run r c n pen next flag then xs ys a text longer h le other b same count to
     (at_column r c pen flag xs ys h le
     ∙ (run_erased r c pen flag x (drop (c + 1) xs) (at ys c) (drop (c + 1) ys) n other b counted
     ∙ (ap (λ (z : Attrs). ops_then (placed_op pen r c z (erase_run n (drop n (at ys c ∷ drop (c + 1) ys))))
-    (cells_written r (c + n) (pen_at r c z) (wrapped_after_erasure flag (drop n (at ys c ∷ drop (c + 1) ys)))
+    (cells_written r (c + n) (pen_in pen.form r c z) (wrapped_after_erasure flag (drop n (at ys c ∷ drop (c + 1) ys)))
     0 (drop n (x ∷ drop (c + 1) xs)) (drop n (at ys c ∷ drop (c + 1) ys))))
     (sym same)
     ∙ (ap (λ (zs : List CellValue). ops_then (ops (drop n (at ys c ∷ drop (c + 1) ys)))
-    (cells_written r (c + n) (pen_at r c a) (wrapped_after_erasure flag (drop n (at ys c ∷ drop (c + 1) ys)))
+    (cells_written r (c + n) (pen_in pen.form r c a) (wrapped_after_erasure flag (drop n (at ys c ∷ drop (c + 1) ys)))
     0 zs (drop n (at ys c ∷ drop (c + 1) ys))))
     (behind c n xs h)
     ∙ (ap (λ (zs : List CellValue). ops_then (ops zs)
-    (cells_written r (c + n) (pen_at r c a) (wrapped_after_erasure flag zs) 0 (drop (c + n) xs) zs))
+    (cells_written r (c + n) (pen_in pen.form r c a) (wrapped_after_erasure flag zs) 0 (drop (c + n) xs) zs))
     (behind c n ys (omega arith))
     ∙ (ap (λ (p : Pen). ops_then (ops (drop (c + n) ys))
     (cells_written r (c + n) p (wrapped_after_erasure flag (drop (c + n) ys)) 0 (drop (c + n) xs) (drop (c + n) ys)))
@@ -321,13 +321,13 @@ pub glyph_leads : (r c n : ℕ) (pen next : Pen) (flag then : Bool)
     (is_right_half (at xs c) || same_cell (at xs c) (at ys c)) ≡ false →
     is_blank x ≡ false → n ≡ glyph_columns (is_wide x) →
     longer ≡ text ++ bytes_of_all (placed_op pen r c (attrs_of x) (Print (text_of x))) →
-    next ≡ pen_at r (c + glyph_columns (is_wide x)) (attrs_of x) →
+    next ≡ pen_in pen.form r (c + glyph_columns (is_wide x)) (attrs_of x) →
     then ≡ wrapped_after_glyph flag (is_wide x) (drop (c + n) ys) →
     Leads longer (cells_from r (c + n) next then xs ys) text (cells_from r c pen flag xs ys)
 glyph_leads r c n pen next flag then xs ys x text longer e h le other =
     subst (λ (z : CellValue). is_blank z ≡ false → n ≡ glyph_columns (is_wide z) →
     longer ≡ text ++ bytes_of_all (placed_op pen r c (attrs_of z) (Print (text_of z))) →
-    next ≡ pen_at r (c + glyph_columns (is_wide z)) (attrs_of z) →
+    next ≡ pen_in pen.form r (c + glyph_columns (is_wide z)) (attrs_of z) →
     then ≡ wrapped_after_glyph flag (is_wide z) (drop (c + n) ys) →
     Leads longer (cells_from r (c + n) next then xs ys) text (cells_from r c pen flag xs ys))
     (sym e) (λ b count told pens flags. next_glyph r c n pen next
@@ -404,13 +404,13 @@ begun_erased : (r c m : ℕ) (pen : Pen) (flag : Bool) (more : List CellValue) (
     m ≡ blank_run default_attrs (default_blank ∷ more) →
     cells_written r c pen flag 0 (default_blank ∷ more) (right_half ∷ under)
     ≡ ops_then (placed_op pen r c default_attrs (erase_run m (drop m (y ∷ under))))
-    (cells_written r (c + m) (pen_at r c default_attrs) (wrapped_after_erasure flag (drop m (y ∷ under)))
+    (cells_written r (c + m) (pen_in pen.form r c default_attrs) (wrapped_after_erasure flag (drop m (y ∷ under)))
     0 (drop m (right_half ∷ more)) (drop m (y ∷ under)))
 unfolding same_cell
 begun_erased r c m pen flag more y under e =
     subst (λ (j : ℕ). cells_written r c pen flag 0 (default_blank ∷ more) (right_half ∷ under)
     ≡ ops_then (placed_op pen r c default_attrs (erase_run j (drop j (y ∷ under))))
-    (cells_written r (c + j) (pen_at r c default_attrs) (wrapped_after_erasure flag (drop j (y ∷ under)))
+    (cells_written r (c + j) (pen_in pen.form r c default_attrs) (wrapped_after_erasure flag (drop j (y ∷ under)))
     0 (drop j (right_half ∷ more)) (drop j (y ∷ under))))
     (sym (e ∙ run_first default_attrs more))
     (run_erased r c pen flag default_blank more right_half under
@@ -421,7 +421,7 @@ one_erased : (r c m : ℕ) (pen : Pen) (flag : Bool) (x : CellValue)
     is_right_half x ≡ true → is_right_half y ≡ false → m ≡ blank_run default_attrs (default_blank ∷ more) →
     cells_written r c pen flag 0 (with_whole_start (x ∷ more)) (with_whole_start_over (x ∷ more) (y ∷ under))
     ≡ ops_then (placed_op pen r c default_attrs (erase_run m (drop m (y ∷ under))))
-    (cells_written r (c + m) (pen_at r c default_attrs)
+    (cells_written r (c + m) (pen_in pen.form r c default_attrs)
     (wrapped_after_erasure flag (drop m (y ∷ under))) 0 (drop m (x ∷ more)) (drop m (y ∷ under)))
 one_erased r c m pen flag right_half more (blank b) under e f k = begun_erased r c m pen flag more (blank b) under k
 one_erased r c m pen flag right_half more (glyph text wide b) under e f k =
@@ -435,7 +435,7 @@ pub half_erased : (r c n m : ℕ) (pen next : Pen) (flag then : Bool) (xs ys : L
     c < length xs → length xs ≤ length ys → is_right_half (at xs c) ≡ true → is_right_half (at ys c) ≡ false →
     n ≡ blank_run default_attrs (drop (c + 1) xs) → m ≡ n + 1 →
     longer ≡ text ++ bytes_of_all (placed_op pen r c default_attrs (erase_run m (drop (c + m) ys))) →
-    next ≡ pen_at r c default_attrs → then ≡ wrapped_after_erasure flag (drop (c + m) ys) →
+    next ≡ pen_in pen.form r c default_attrs → then ≡ wrapped_after_erasure flag (drop (c + m) ys) →
     Leads longer (cells_from r (c + m) next then xs ys) text
     (cells_written r c pen flag 0 (with_whole_start (drop c xs)) (with_whole_start_over (drop c xs) (drop c ys)))
 half_erased r c n m pen next flag then xs ys text longer h le e f count more told pens flags =
@@ -452,11 +452,11 @@ half_erased r c n m pen next flag then xs ys text longer h le e f count more tol
     (from_column ys c (omega arith))
     ∙ (one_erased r c m pen flag x rest y under e f (more ∙ (ap (λ (k : ℕ). k + 1) count ∙ sym (run_first_one rest)))
     ∙ (ap (λ (zs : List CellValue). ops_then (ops (drop m (y ∷ under)))
-    (cells_written r (c + m) (pen_at r c default_attrs)
+    (cells_written r (c + m) (pen_in pen.form r c default_attrs)
     (wrapped_after_erasure flag (drop m (y ∷ under))) 0 zs (drop m (y ∷ under))))
     (behind c m xs h)
     ∙ (ap (λ (zs : List CellValue). ops_then (ops zs)
-    (cells_written r (c + m) (pen_at r c default_attrs) (wrapped_after_erasure flag zs) 0 (drop (c + m) xs) zs))
+    (cells_written r (c + m) (pen_in pen.form r c default_attrs) (wrapped_after_erasure flag zs) 0 (drop (c + m) xs) zs))
     (behind c m ys (omega arith))
     ∙ (ap (λ (p : Pen). ops_then (ops (drop (c + m) ys))
     (cells_written r (c + m) p (wrapped_after_erasure flag (drop (c + m) ys)) 0 (drop (c + m) xs) (drop (c + m) ys)))

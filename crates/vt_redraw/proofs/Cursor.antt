@@ -15,7 +15,8 @@ use Rattle.vt_rows.specs.Row.{RowValue, blank_row}
 use Rattle.vt_grid.specs.Page.{row_or}
 use Rattle.vt_grid.specs.Moves.{line_feed}
 use Rattle.vt_grid.specs.Canvas.{Canvas}
-use Rattle.vt_redraw.specs.Script.{pen_at, move_ops, attr_ops}
+use Rattle.vt_redraw.specs.Script.{pen_at, move_ops, attr_ops_in}
+use Rattle.vt_redraw.specs.declared.form.Form.{Form}
 use Rattle.vt_redraw.specs.declared.pen.Pen.{Pen}
 use Rattle.vt_grid.proofs.Drawing.{Draws, draws_then}
 use Rattle.vt_redraw.proofs.Steps.{at_pen, Reads, Within, going_draws, changing_draws}
@@ -164,12 +165,12 @@ under_last_draws May base rows pen i r height reads size all prints le low withi
     let middle = at_pen base rows (pen_at i base.page.width w.pen.attrs) in
     let end = at_pen base rows (pen_at r base.page.width pen.attrs) in
     let changed = at_pen base rows (pen_at i base.page.width pen.attrs) in
-    in_then May w.ops (attr_ops w.pen.attrs pen.attrs ++ replicate (r - i) LineFeed) (at_pen base rows pen) middle end
+    in_then May w.ops (attr_ops_in pen.form w.pen.attrs pen.attrs ++ replicate (r - i) LineFeed) (at_pen base rows pen) middle end
     (in_to May w.ops (at_pen base rows pen) (at_pen base rows w.pen)
     middle there (ap (λ (q : Pen). at_pen base rows q) goes.there))
-    (in_then May (attr_ops w.pen.attrs pen.attrs) (replicate (r - i) LineFeed) middle changed end
-    (quiet_in May (attr_ops w.pen.attrs pen.attrs) middle changed (changing_quiet w.pen.attrs pen.attrs)
-    (changing_draws base rows (pen_at i base.page.width w.pen.attrs) pen.attrs))
+    (in_then May (attr_ops_in pen.form w.pen.attrs pen.attrs) (replicate (r - i) LineFeed) middle changed end
+    (quiet_in May (attr_ops_in pen.form w.pen.attrs pen.attrs) middle changed (changing_quiet pen.form w.pen.attrs pen.attrs)
+    (changing_draws pen.form base rows (pen_at i base.page.width w.pen.attrs) pen.attrs))
     (quiet_in May (replicate (r - i) LineFeed) changed end (feeds_quiet (r - i))
     (down_draws base rows (r - i) i base.page.width height pen.attrs reads.bottom size (omega arith)
     ∙ ap (λ (z : ℕ). Some (at_pen base rows (pen_at z base.page.width pen.attrs))) n)))
@@ -180,13 +181,13 @@ saved_at base row column attrs =
     with_saved (record { row = row; column = column; origin = base.page.origin; attrs = attrs }) base
 
 -- Printing a space and erasing it again makes a wrap pending.
-pub blank_passed_draws : (May : ℕ → ℕ → Type 0) (base : Canvas)
+pub blank_passed_draws : (May : ℕ → ℕ → Type 0) (form : Form) (base : Canvas)
     (done below : List RowValue) (pre : List CellValue) (r : ℕ) (was b : Attrs) →
     0 < base.page.width → length done ≡ r → length pre + 1 ≡ base.page.width →
     Paired pre → ((k : ℕ) → length pre ≤ k → k < base.page.width → May r k) →
-    DrawsIn May (blank_passed was b) (mid base done below (pre ++ blank b ∷ []) false (pen_at r (length pre) was))
+    DrawsIn May (blank_passed form was b) (mid base done below (pre ++ blank b ∷ []) false (pen_at r (length pre) was))
     (mid (saved_at base r base.page.width b) done below (pre ++ blank b ∷ []) false (pen_at r base.page.width was))
-blank_passed_draws May base done below pre r was b pos e w h may =
+blank_passed_draws May form base done below pre r was b pos e w h may =
     let row = pre ++ blank b ∷ [] in
     let spaced = pre ++ glyph (0x20 ∷ []) false was ∷ [] in
     let c = length pre in
@@ -201,23 +202,23 @@ blank_passed_draws May base done below pre r was b pos e w h may =
     let m5 = mid other done below row false (pen_at r width b) in
     let m6 = mid other done below row false (pen_at r width was) in
     in_then May (Print (0x20 ∷ []) ∷ [])
-    (attr_ops was b ++ (SaveCursor ∷ Backspace ∷ EraseChars 1 ∷ RestoreCursor ∷ attr_ops b was)) m1 m2 m6
+    (attr_ops_in form was b ++ (SaveCursor ∷ Backspace ∷ EraseChars 1 ∷ RestoreCursor ∷ attr_ops_in form b was)) m1 m2 m6
     (in_to May (Print (0x20 ∷ []) ∷ []) m1 (mid base done below spaced false (pen_at r (c + 1) was)) m2
     (print_bare May base done below pre (0x20 ∷ []) false b was r prints e w h may)
     (ap (λ (z : ℕ). mid base done below spaced false (pen_at r z was)) w))
-    (in_then May (attr_ops was b) (SaveCursor ∷ Backspace ∷ EraseChars 1 ∷ RestoreCursor ∷ attr_ops b was) m2 m3 m6
-    (quiet_in May (attr_ops was b) m2 m3 (changing_quiet was b)
-    (changing_draws base (done ++ row_of spaced false ∷ below) (pen_at r width was) b))
-    (in_then May (SaveCursor ∷ Backspace ∷ []) (EraseChars 1 ∷ RestoreCursor ∷ attr_ops b was) m3 m4 m6
+    (in_then May (attr_ops_in form was b) (SaveCursor ∷ Backspace ∷ EraseChars 1 ∷ RestoreCursor ∷ attr_ops_in form b was) m2 m3 m6
+    (quiet_in May (attr_ops_in form was b) m2 m3 (changing_quiet form was b)
+    (changing_draws form base (done ++ row_of spaced false ∷ below) (pen_at r width was) b))
+    (in_then May (SaveCursor ∷ Backspace ∷ []) (EraseChars 1 ∷ RestoreCursor ∷ attr_ops_in form b was) m3 m4 m6
     (quiet_in May (SaveCursor ∷ Backspace ∷ []) m3 m4 (refl, (refl, tt))
     (ap (λ (z : ℕ). Some (mid other done below spaced false (pen_at r z b))) col))
-    (in_then May (EraseChars 1 ∷ []) (RestoreCursor ∷ attr_ops b was)
+    (in_then May (EraseChars 1 ∷ []) (RestoreCursor ∷ attr_ops_in form b was)
     m4 (mid other done below row false (pen_at r c b)) m6
     (erase_last May other done below pre (0x20 ∷ []) false was b false r e w h may)
-    (in_then May (RestoreCursor ∷ []) (attr_ops b was) (mid other done below row false (pen_at r c b)) m5 m6
+    (in_then May (RestoreCursor ∷ []) (attr_ops_in form b was) (mid other done below row false (pen_at r c b)) m5 m6
     (quiet_in May (RestoreCursor ∷ []) (mid other done below row false (pen_at r c b)) m5 (refl, tt) refl)
-    (quiet_in May (attr_ops b was) m5 m6 (changing_quiet b was)
-    (changing_draws other (done ++ row_of row false ∷ below) (pen_at r width b) was))))))
+    (quiet_in May (attr_ops_in form b was) m5 m6 (changing_quiet form b was)
+    (changing_draws form other (done ++ row_of row false ∷ below) (pen_at r width b) was))))))
 
 over_blank_draws : (May : ℕ → ℕ → Type 0) (base : Canvas) (done below : List RowValue)
     (pre : List CellValue) (pen : Pen) (r height : ℕ) (b : Attrs) →
@@ -234,12 +235,12 @@ over_blank_draws May base done below pre pen r height b reads e rows w h within 
     let col : width - 1 ≡ length pre = omega arith in
     let m0 = mid base done below row false pen in
     let m1 = mid base done below row false (pen_at r (length pre) pen.attrs) in
-    in_then May (move_ops pen r (width - 1)) (blank_passed pen.attrs b) m0 m1
+    in_then May (move_ops pen r (width - 1)) (blank_passed pen.form pen.attrs b) m0 m1
     (mid (saved_at base r width b) done below row false (pen_at r width pen.attrs))
     (in_to May (move_ops pen r (width - 1)) m0 (mid base done below row false (pen_at r (width - 1) pen.attrs)) m1
     (going_there May base done below row false r (width - 1) height pen reads e rows (omega arith) within)
     (ap (λ (z : ℕ). mid base done below row false (pen_at r z pen.attrs)) col))
-    (blank_passed_draws May base done below pre r pen.attrs b reads.has_columns e w h may)
+    (blank_passed_draws May pen.form base done below pre r pen.attrs b reads.has_columns e w h may)
 
 -- If a row ends with a blank, the first column of its last cell is the column of that blank.
 pub last_blank_column : (pre : List CellValue) (b : Attrs) → last_column (pre ++ blank b ∷ []) ≡ length pre

@@ -16,7 +16,8 @@ use Rattle.vt_grid.specs.Page.{row_or}
 use Rattle.vt_grid.specs.Page.{IsPlainPage}
 use Rattle.vt_grid.specs.Canvas.{Canvas}
 use Rattle.vt_cells.specs.Glyph.{glyph_columns}
-use Rattle.vt_redraw.specs.Script.{pen_at, attr_ops}
+use Rattle.vt_redraw.specs.Script.{pen_at, attr_ops, attr_ops_in}
+use Rattle.vt_redraw.specs.declared.form.Form.TheVariants.{Fixed}
 use Rattle.vt_redraw.specs.declared.pen.Pen.{Pen}
 use Rattle.vt_grid.proofs.Drawing.{Draws}
 use Rattle.vt_redraw.specs.Touching.{Touches}
@@ -44,14 +45,14 @@ printed_again : (May : ℕ → ℕ → Type 0) (base : Canvas) (done below : Lis
     Paired xs → ends xs ≡ false → PrintsCells base.page.width xs →
     ((k : ℕ) → last_column xs ≤ k → k < base.page.width → May r k) →
     DrawsIn May (MoveTo r (last_column xs)
-    ∷ (attr_ops pen.attrs (attrs_of (last_glyph xs)) ++ Print (text_of (last_glyph xs)) ∷ []))
+    ∷ (attr_ops_in pen.form pen.attrs (attrs_of (last_glyph xs)) ++ Print (text_of (last_glyph xs)) ∷ []))
     (mid base done below xs flag pen)
     (mid base done below xs flag (pen_at r base.page.width (attrs_of (last_glyph xs))))
 printed_again May base done below xs flag r pen origin e w h full prints may =
     last_cases
     (λ z k x. PrintsCells base.page.width z → length z ≡ base.page.width →
     Sound flag z → ((j : ℕ) → k ≤ j → j < base.page.width → May r j) →
-    DrawsIn May (MoveTo r k ∷ (attr_ops pen.attrs (attrs_of x) ++ Print (text_of x) ∷ []))
+    DrawsIn May (MoveTo r k ∷ (attr_ops_in pen.form pen.attrs (attrs_of x) ++ Print (text_of x) ∷ []))
     (mid base done below z flag pen) (mid base done below z flag (pen_at r base.page.width (attrs_of x))))
     (λ pre text wide a front p size sound mays.
     let n = length_glyph pre text wide a in
@@ -64,12 +65,12 @@ printed_again May base done below xs flag r pen origin e w h full prints may =
     let m1 = mid base done below row flag (pen_at r c pen.attrs) in
     let m2 = mid base done below row flag (pen_at r c a) in
     let m3 = mid base done below row flag (pen_at r base.page.width a) in
-    in_then May (MoveTo r c ∷ []) (attr_ops pen.attrs a ++ Print text ∷ []) m0 m1 m3
+    in_then May (MoveTo r c ∷ []) (attr_ops_in pen.form pen.attrs a ++ Print text ∷ []) m0 m1 m3
     (quiet_in May (MoveTo r c ∷ []) m0 m1 (refl, tt)
     (move_to_draws base rows pen r c origin (omega arith) (omega arith)))
-    (in_then May (attr_ops pen.attrs a) (Print text ∷ []) m1 m2 m3
-    (quiet_in May (attr_ops pen.attrs a) m1 m2 (changing_quiet pen.attrs a)
-    (changing_draws base rows (pen_at r c pen.attrs) a))
+    (in_then May (attr_ops_in pen.form pen.attrs a) (Print text ∷ []) m1 m2 m3
+    (quiet_in May (attr_ops_in pen.form pen.attrs a) m1 m2 (changing_quiet pen.form pen.attrs a)
+    (changing_draws pen.form base rows (pen_at r c pen.attrs) a))
     (in_to May (Print text ∷ []) m2 (mid base done below row flag (pen_at r (c + glyph_columns wide) a)) m3
     (print_again May base done below pre text wide a flag r
     (prints_last base.page.width pre text wide a p) e (sym n ∙ size) front sound mays)
@@ -110,8 +111,8 @@ alone_draws May base rows p r height (Some i) attrs reads size all prints low ne
     (printed_again May base v.done v.below x.cells x.wrapped i pen reads.origin v.above ok.columns ok.paired
     (sym (ends_is x.cells) ∙ near.1) (all_row (PrintsRow width) rows i d (omega arith) prints) may) in
     let tail = in_then May (attr_ops a default_attrs) (replicate (r - i) LineFeed) m1 m2 m3
-    (quiet_in May (attr_ops a default_attrs) m1 m2 (changing_quiet a default_attrs)
-    (changing_draws base rows (pen_at i width a) default_attrs))
+    (quiet_in May (attr_ops a default_attrs) m1 m2 (changing_quiet Fixed a default_attrs)
+    (changing_draws Fixed base rows (pen_at i width a) default_attrs))
     (quiet_in May (replicate (r - i) LineFeed) m2 m3 (feeds_quiet (r - i))
     (down_draws base rows (r - i) i width height default_attrs reads.bottom size (omega arith)
     ∙ ap (λ (z : ℕ). Some (at_pen base rows (pen_at z width default_attrs))) n)) in (
@@ -150,14 +151,14 @@ alone_draws May base rows p r height None attrs reads size all prints low near m
     ∙ ap (λ (z : Bool). v.done ++ row_of row z ∷ v.below) (off x.wrapped x.cells ok.sound full)) in
     let pen = pen_at p.row p.col default_attrs in
     let goal = pen_at r width default_attrs in
-    let passed = λ (a : Attrs). MoveTo r (width - 1) ∷ blank_passed default_attrs a in
+    let passed = λ (a : Attrs). MoveTo r (width - 1) ∷ blank_passed Fixed default_attrs a in
     let m1 = at_pen base rows (pen_at r (width - 1) default_attrs) in
     let moved = quiet_in May (MoveTo r (width - 1) ∷ []) (at_pen base rows pen) m1 (refl, tt)
     (move_to_draws base rows pen r (width - 1) reads.origin (omega arith) (omega arith)) in
-    let there = subst (λ (z : List RowValue). DrawsIn May (blank_passed default_attrs b)
+    let there = subst (λ (z : List RowValue). DrawsIn May (blank_passed Fixed default_attrs b)
     (at_pen base z (pen_at r (length k.pre) default_attrs)) (at_pen (saved_at base r width b) z goal))
     (sym same)
-    (blank_passed_draws May base v.done v.below k.pre r default_attrs b pos v.above (omega arith)
+    (blank_passed_draws May Fixed base v.done v.below k.pre r default_attrs b pos v.above (omega arith)
     k.front (λ j low high. may j (subst (λ (n : ℕ). n ≤ j) (sym last) low) high)) in (
       record { row = r; column = width; origin = base.page.origin; attrs = b },
       subst (λ (c : Attrs). DrawsIn May (passed (attrs_of (at x.cells (width - 1))))
@@ -166,9 +167,9 @@ alone_draws May base rows p r height None attrs reads size all prints low near m
           (subst
           (λ (a : Attrs). DrawsIn May (passed a) (at_pen base rows pen) (at_pen (saved_at base r width b) rows goal))
           (sym blank_attrs)
-          (in_then May (MoveTo r (width - 1) ∷ []) (blank_passed default_attrs b)
+          (in_then May (MoveTo r (width - 1) ∷ []) (blank_passed Fixed default_attrs b)
           (at_pen base rows pen) m1 (at_pen (saved_at base r width b) rows goal) moved
-          (subst (λ (z : ℕ). DrawsIn May (blank_passed default_attrs b)
+          (subst (λ (z : ℕ). DrawsIn May (blank_passed Fixed default_attrs b)
           (at_pen base rows (pen_at r z default_attrs)) (at_pen (saved_at base r width b) rows goal))
           (sym col) there))),
     )

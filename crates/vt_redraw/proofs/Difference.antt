@@ -14,12 +14,14 @@ use Rattle.vt_rows.specs.Row.{RowValue, IsRow}
 use Rattle.vt_grid.specs.Page.{row_or}
 use Rattle.vt_grid.specs.Page.{IsPlainPage}
 use Rattle.vt_grid.specs.Canvas.{Canvas}
-use Rattle.vt_redraw.specs.Script.{pen_at, attr_ops}
+use Rattle.vt_redraw.specs.Script.{pen_at, attr_ops_in}
+use Rattle.vt_redraw.specs.declared.form.Form.{Form}
+use Rattle.vt_redraw.specs.declared.form.Form.TheVariants.{Fixed}
 use Rattle.vt_grid.proofs.Drawing.{Draws}
 use Rattle.vt_redraw.proofs.Steps.{at_pen, Reads, Within, changing_draws}
 use Rattle.vt_redraw.specs.Picture.{Picture, IsPicture, picture_of, SamePictureSize, Saved, with_saved, with_picture}
 use Rattle.vt_redraw.specs.Steady.{IsSteadyCell, IsSteady}
-use Rattle.vt_redraw.specs.Redraw.{nearest, rows_written, cursor_written, pen_of, script, cursor_visibility_ops, difference}
+use Rattle.vt_redraw.specs.Redraw.{nearest, rows_written, cursor_written, pen_of, script_in, cursor_visibility_ops, difference, difference_in}
 use Rattle.vt_redraw.proofs.Halves.{Paired, paired_of}
 use Rattle.vt_redraw.proofs.Flags.{ends_is}
 use Rattle.vt_redraw.proofs.Places.{PrintsCells}
@@ -98,11 +100,12 @@ PlacesAt self prev w =
 placed : (self prev : Picture) → PlacesAt self prev self.width
 placed self prev e k low high = inr (e, (refl, low))
 
-pub script_draws : (self : Picture) (base : Canvas) → IsPicture self → IsSteady self →
+pub script_draws : (form : Form) (self : Picture) (base : Canvas) → IsPicture self → IsSteady self →
     IsPicture (picture_of base) → IsPlainPage base.page → SamePictureSize self (picture_of base) →
-    Puts (IsLocal self (picture_of base)) (script self (picture_of base)) base (at_pen base self.rows (pen_of self))
-unfolding script
-script_draws self base is steady other plain size =
+    Puts (IsLocal self (picture_of base)) (script_in form self (picture_of base)) base
+    (at_pen base self.rows (pen_of form self))
+unfolding script_in
+script_draws form self base is steady other plain size =
     let width = base.page.width in
     let height = length self.rows in
     let same = size.width in
@@ -111,7 +114,7 @@ script_draws self base is steady other plain size =
     let row = other.cursor_row in
     let reads : Reads base height width =
     record { bottom = omega arith; origin = plain.origin; wide = refl; has_columns = other.has_columns } in
-    let pen = pen_of (picture_of base) in
+    let pen = pen_of form (picture_of base) in
     let start : Within pen height width = record { row = omega arith; col = other.cursor_column } in
     let self_rows : AllByRecursion (IsRow width) self.rows =
     subst (λ (w : ℕ). AllByRecursion (IsRow w) self.rows) same
@@ -140,14 +143,14 @@ script_draws self base is steady other plain size =
     (sym same) rule.1 in (
       rule.0,
       in_then May w.ops
-          (cursor_written w.pen self.width self.rows self.row self.column ++ attr_ops w.pen.attrs self.attrs)
-          base (at_pen base self.rows w.pen) (with_saved rule.0 (at_pen base self.rows (pen_of self))) rows.draws
+          (cursor_written w.pen self.width self.rows self.row self.column ++ attr_ops_in form w.pen.attrs self.attrs)
+          base (at_pen base self.rows w.pen) (with_saved rule.0 (at_pen base self.rows (pen_of form self))) rows.draws
           (in_then May (cursor_written w.pen self.width self.rows self.row self.column)
-          (attr_ops w.pen.attrs self.attrs) (at_pen base self.rows w.pen)
-          (with_saved rule.0 goal) (with_saved rule.0 (at_pen base self.rows (pen_of self))) moved
-          (quiet_in May (attr_ops w.pen.attrs self.attrs) (with_saved rule.0 goal)
-          (with_saved rule.0 (at_pen base self.rows (pen_of self))) (changing_quiet w.pen.attrs self.attrs)
-          (changing_draws (with_saved rule.0 base) self.rows (pen_at self.row self.column w.pen.attrs) self.attrs))),
+          (attr_ops_in form w.pen.attrs self.attrs) (at_pen base self.rows w.pen)
+          (with_saved rule.0 goal) (with_saved rule.0 (at_pen base self.rows (pen_of form self))) moved
+          (quiet_in May (attr_ops_in form w.pen.attrs self.attrs) (with_saved rule.0 goal)
+          (with_saved rule.0 (at_pen base self.rows (pen_of form self))) (changing_quiet form w.pen.attrs self.attrs)
+          (changing_draws form (with_saved rule.0 base) self.rows (pen_at self.row self.column w.pen.attrs) self.attrs))),
     )
 
 -- ---- the difference
@@ -165,17 +168,17 @@ hiding_quiet : (self prev : Picture) → AllQuiet (cursor_visibility_ops self pr
 hiding_quiet self prev =
     cond_both (same_bool self.hidden prev.hidden) [] (Hide self.hidden ∷ []) AllQuiet (λ _. tt) (λ _. (refl, tt))
 
-difference_in : (self prev : Picture) (any : Canvas) → IsPicture self → IsSteady self →
+difference_puts : (form : Form) (self prev : Picture) (any : Canvas) → IsPicture self → IsSteady self →
     IsPicture prev → SamePictureSize self prev → IsPlainPage any.page → picture_of any ≡ prev →
-    Puts (IsLocal self prev) (difference self prev) any (with_picture self any)
-unfolding difference script
-difference_in self prev any is steady other size plain e =
+    Puts (IsLocal self prev) (difference_in form self prev) any (with_picture self any)
+unfolding difference_in script_in
+difference_puts form self prev any is steady other size plain e =
     let base = record any { hidden = self.hidden } in
     let May = IsLocal self (picture_of any) in
     let shows = sym e in
     let was = subst IsPicture shows other in
     let sizes = subst (SamePictureSize self) shows size in
-    let rest = script_draws self base is steady
+    let rest = script_draws form self base is steady
     (record {
       has_columns = was.has_columns;
       cursor_row = was.cursor_row;
@@ -185,9 +188,9 @@ difference_in self prev any is steady other size plain e =
     })
     plain (record { width = sizes.width; height = sizes.height }) in
     let goal = with_saved rest.0 (with_picture self any) in
-    subst (λ (p : Picture). Puts (IsLocal self p) (cursor_visibility_ops self p ++ script self p) any (with_picture self any)) e (
+    subst (λ (p : Picture). Puts (IsLocal self p) (cursor_visibility_ops self p ++ script_in form self p) any (with_picture self any)) e (
       rest.0,
-      in_then May (cursor_visibility_ops self (picture_of any)) (script self (picture_of any)) any base goal
+      in_then May (cursor_visibility_ops self (picture_of any)) (script_in form self (picture_of any)) any base goal
           (quiet_in May (cursor_visibility_ops self (picture_of any)) any base
           (hiding_quiet self (picture_of any)) (hiding_draws self any))
           rest.1,
@@ -199,17 +202,27 @@ Shows ops start goal = (saved : Saved) × Draws ops start (with_saved saved goal
 
 -- Drawing the difference on a plain canvas that displays `prev` makes it display `self`; besides, only the saved state
 -- may change.
+pub difference_draws_in : (form : Form) (self prev : Picture) (any : Canvas) → IsPicture self → IsSteady self →
+    IsPicture prev → SamePictureSize self prev → IsPlainPage any.page → picture_of any ≡ prev →
+    Shows (difference_in form self prev) any (with_picture self any)
+difference_draws_in form self prev any is steady other size plain e =
+    let puts = difference_puts form self prev any is steady other size plain e in
+    (puts.0, puts.1.draws)
+
 pub difference_draws : (self prev : Picture) (any : Canvas) → IsPicture self → IsSteady self →
     IsPicture prev → SamePictureSize self prev → IsPlainPage any.page → picture_of any ≡ prev →
     Shows (difference self prev) any (with_picture self any)
-difference_draws self prev any is steady other size plain e =
-    let puts = difference_in self prev any is steady other size plain e in
-    (puts.0, puts.1.draws)
+difference_draws = difference_draws_in Fixed
 
 -- The difference touches only positions near a differing row, and the end of the row at which a wrap is made pending.
+pub difference_local_in : (form : Form) (self prev : Picture) (any : Canvas) → IsPicture self → IsSteady self →
+    IsPicture prev → SamePictureSize self prev → IsPlainPage any.page → picture_of any ≡ prev →
+    Touches (IsLocal self prev) (difference_in form self prev) any
+difference_local_in form self prev any is steady other size plain e =
+    let puts = difference_puts form self prev any is steady other size plain e in
+    puts.1.touches
+
 pub difference_local : (self prev : Picture) (any : Canvas) → IsPicture self → IsSteady self →
     IsPicture prev → SamePictureSize self prev → IsPlainPage any.page → picture_of any ≡ prev →
     Touches (IsLocal self prev) (difference self prev) any
-difference_local self prev any is steady other size plain e =
-    let puts = difference_in self prev any is steady other size plain e in
-    puts.1.touches
+difference_local = difference_local_in Fixed

@@ -10,14 +10,16 @@ use Rattle.vt_cells.proofs.Same.{same_attrs-itself, same_bool-itself}
 use Rattle.vt_rows.specs.Row.{RowValue}
 use Rattle.vt_grid.specs.Canvas.{Canvas, drawn_all}
 use Rattle.vt_grid.specs.Page.{IsPlainPage}
-use Rattle.vt_redraw.specs.Script.{attr_ops}
+use Rattle.vt_redraw.specs.Script.{attr_ops_in}
+use Rattle.vt_redraw.specs.declared.form.Form.{Form}
+use Rattle.vt_redraw.specs.declared.form.Form.TheVariants.{Fixed}
 use Rattle.vt_redraw.specs.declared.pen.Pen.{Pen}
 use Rattle.vt_redraw.specs.Picture.{Picture, IsPicture, SamePictureSize, picture_of}
 use Rattle.vt_redraw.specs.Steady.{IsSteady}
 use Rattle.vt_redraw.specs.Script.{Linked, no_link, starts_other, row_link, is_at}
-use Rattle.vt_redraw.specs.Redraw.{link_of, rows_below, rows_written, pen_of, cursor_written, script, difference}
+use Rattle.vt_redraw.specs.Redraw.{link_of, rows_below, rows_written, pen_of, cursor_written, script_in, difference, difference_in}
 use Rattle.vt_redraw.proofs.Standing.{row_nothing, starts_none}
-use Rattle.vt_redraw.proofs.Difference.{difference_draws}
+use Rattle.vt_redraw.proofs.Difference.{difference_draws_in}
 
 -- ---- equal pictures
 
@@ -48,13 +50,16 @@ unfolding rows_written
 rows_nothing pen [] = (refl, refl)
 rows_nothing pen (x ∷ xs) = rw (row_nothing 0 0 pen x) (below_nothing 0 pen x xs)
 
-pub difference_self : (picture : Picture) → difference picture picture ≡ []
-unfolding difference script cursor_written attr_ops
-difference_self picture =
-    let pen = pen_of picture in
+pub difference_self_in : (form : Form) (picture : Picture) → difference_in form picture picture ≡ []
+unfolding difference_in script_in cursor_written attr_ops_in
+difference_self_in form picture =
+    let pen = pen_of form picture in
     let n = rows_nothing pen picture.rows in
     let t : is_at pen picture.row picture.column ≡ true = grind (arith, nat_tests) in
     rw (n.0, n.1, same_bool-itself picture.hidden, t, same_attrs-itself picture.attrs) refl
+
+pub difference_self : (picture : Picture) → difference picture picture ≡ []
+difference_self = difference_self_in Fixed
 
 -- ---- an empty difference
 
@@ -97,10 +102,14 @@ unfolding picture_or
 draws_tell ops canvas one two h k = ap (picture_or (picture_of one)) (sym h ∙ k)
 
 -- Two pictures are equal if their difference is empty.
+pub empty_only_in : (form : Form) (self prev : Picture) → IsPicture self → IsSteady self →
+    IsPicture prev → SamePictureSize self prev → difference_in form self prev ≡ [] → self ≡ prev
+empty_only_in form self prev is steady other size e =
+    let any = showing prev in
+    let d = difference_draws_in form self prev any is steady other size (showing_plain prev other) refl in
+    let none = ap (λ (ops : List Op). drawn_all ops any) (sym e) in
+    same_picture self prev prev.width size.width (sym (draws_tell (difference_in form self prev) any any _ (sym none) d.1))
+
 pub empty_only : (self prev : Picture) → IsPicture self → IsSteady self →
     IsPicture prev → SamePictureSize self prev → difference self prev ≡ [] → self ≡ prev
-empty_only self prev is steady other size e =
-    let any = showing prev in
-    let d = difference_draws self prev any is steady other size (showing_plain prev other) refl in
-    let none = ap (λ (ops : List Op). drawn_all ops any) (sym e) in
-    same_picture self prev prev.width size.width (sym (draws_tell (difference self prev) any any _ (sym none) d.1))
+empty_only = empty_only_in Fixed

@@ -9,14 +9,16 @@ use Rattle.vt_cells.specs.Attrs.{default_attrs, same_attrs, same_bool, Attrs}
 use Rattle.vt_cells.specs.Cell.{CellValue, blank, glyph, right_half, IsCell}
 use Rattle.vt_cells.specs.Cell.{attrs_of, text_of, is_right_half, same_cell}
 use Rattle.vt_cells.proofs.Glyphs.{IsGlyphText-space}
-use Rattle.vt_cells.specs.Op.{Op, Hide, MoveTo, MoveRight, NextRow, LineFeed, Backspace, EraseChars}
+use Rattle.vt_cells.specs.Op.{Op, Hide, MoveTo, MoveRight, NextRow, LineFeed, Backspace, EraseChars, ClearAttrs}
 use Rattle.vt_cells.specs.Op.{SaveCursor, RestoreCursor, ChangeAttrs, Print, FitsAttrs}
 use Rattle.vt_rows.specs.Cells.{at, ends_blank}
 use Rattle.vt_rows.specs.Row.{RowValue, IsRow}
 use Rattle.vt_grid.specs.Page.{row_or}
 use Rattle.vt_redraw.specs.Fits.{Fits, IsDrawnText}
 use Rattle.vt_cells.specs.Glyph.{glyph_columns}
-use Rattle.vt_redraw.specs.Script.{pen_at, move_ops, attr_ops, blank_run, erase_run}
+use Rattle.vt_redraw.specs.Script.{move_ops, attr_ops, blank_run, erase_run, pen_in, attr_ops_in, resets}
+use Rattle.vt_redraw.specs.declared.form.Form.{Form}
+use Rattle.vt_redraw.specs.declared.form.Form.TheVariants.{Fixed}
 use Rattle.vt_redraw.specs.declared.pen.Pen.{Pen}
 use Rattle.vt_redraw.proofs.Runs.{run_bound}
 use Rattle.vt_redraw.proofs.Printable.{printable_text}
@@ -24,9 +26,10 @@ use Rattle.vt_redraw.specs.Picture.{Picture, IsPicture, IsColoredPicture}
 use Rattle.vt_redraw.specs.Script.{Scripted, no_ops, ops_then, placed_op, cells_written, last_column, last_glyph}
 use Rattle.vt_redraw.specs.Script.{Linked, after_last_glyph, first_written, is_at, no_link, pen_after, starts_other}
 use Rattle.vt_redraw.specs.Script.{break_ops, ops_then_link, row_break, row_link, wrapped_after_erasure, wrapped_after_glyph}
-use Rattle.vt_redraw.specs.Redraw.{row_written, link_of, rows_below, rows_written, nearest, over_blank}
-use Rattle.vt_redraw.specs.Redraw.{under_last, pending_at, cursor_written, pen_of, script, cursor_visibility_ops}
-use Rattle.vt_redraw.specs.Redraw.{difference, blank_like, redraw, pending_alone, cursor_state}
+use Rattle.vt_redraw.specs.Redraw.{row_written, link_of, rows_below, rows_written, nearest, over_blank, script_in}
+use Rattle.vt_redraw.specs.Redraw.{under_last, pending_at, cursor_written, pen_of, cursor_visibility_ops, difference_in}
+use Rattle.vt_redraw.specs.Redraw.{difference, blank_like, redraw, pending_alone, cursor_state, redraw_in}
+use Rattle.vt_redraw.specs.Script.{change_ops}
 
 -- ---- lists of operations
 
@@ -45,10 +48,12 @@ going_fits pen r c h l =
     (MoveRight (c - pen.col) ∷ []) _ AllFit (λ _. (omega arith, tt))
     (λ _. cond_both ((r == pen.row) && (c == pen.col)) [] (MoveTo r c ∷ []) AllFit (λ _. tt) (λ _. ((h, l), tt))))
 
-changing_fits : (was new : Attrs) → FitsAttrs was → FitsAttrs new → AllFit (attr_ops was new)
-unfolding attr_ops
-changing_fits was new h l =
-    cond_both (same_attrs was new) [] (ChangeAttrs was new ∷ []) AllFit (λ _. tt) (λ _. ((h, l), tt))
+changing_fits : (form : Form) (was new : Attrs) → FitsAttrs was → FitsAttrs new → AllFit (attr_ops_in form was new)
+unfolding attr_ops_in
+changing_fits form was new h l =
+    cond_both (same_attrs was new) [] (change_ops form was new) AllFit (λ _. tt)
+    (λ _. cond_both (resets form was new) (ClearAttrs ∷ ChangeAttrs default_attrs new ∷ [])
+    (ChangeAttrs was new ∷ []) AllFit (λ _. (tt, (((tt, tt), l), tt))) (λ _. ((h, l), tt)))
 
 erase_run_fits : (n : ℕ) (xs : List CellValue) → n < 2 ^ 16 → Fits (erase_run n xs)
 erase_run_fits n [] h = tt
@@ -57,8 +62,8 @@ erase_run_fits n (x ∷ xs) h = h
 doing_fits : (pen : Pen) (r c : ℕ) (attrs : Attrs) (op : Op) → r < 65535 → c < 65535 →
     FitsAttrs pen.attrs → FitsAttrs attrs → Fits op → AllFit (placed_op pen r c attrs op)
 doing_fits pen r c attrs op h l was new fits =
-    fits_append (move_ops pen r c) (attr_ops pen.attrs attrs ++ op ∷ []) (going_fits pen r c h l)
-    (fits_append (attr_ops pen.attrs attrs) (op ∷ []) (changing_fits pen.attrs attrs was new) (fits, tt))
+    fits_append (move_ops pen r c) (attr_ops_in pen.form pen.attrs attrs ++ op ∷ []) (going_fits pen r c h l)
+    (fits_append (attr_ops_in pen.form pen.attrs attrs) (op ∷ []) (changing_fits pen.form pen.attrs attrs was new) (fits, tt))
 
 feeds_fit : (n : ℕ) → AllFit (replicate n LineFeed)
 feeds_fit zero = tt
@@ -108,16 +113,16 @@ cells_fit r c pen flag zero (blank a ∷ xs) (y ∷ ys) h l was fit =
     let n = blank_run a xs in
     let bound = run_bound a xs in
     let op = erase_run (suc n) (drop n ys) in
-    let rest = cells_written r (c + 1) (pen_at r c a) (wrapped_after_erasure flag (drop n ys)) n xs ys in
+    let rest = cells_written r (c + 1) (pen_in pen.form r c a) (wrapped_after_erasure flag (drop n ys)) n xs ys in
     cond_both (same_cell (blank a) y) (cells_written r (c + 1) pen flag zero xs ys)
     (ops_then (placed_op pen r c a op) rest) FitsWritten
     (λ _. cells_fit r (c + 1) pen flag zero xs ys h (omega arith) was fit.1)
     (λ _. fits_after (placed_op pen r c a op) rest
     (doing_fits pen r c a op h (omega arith) was fit.0.1 (erase_run_fits (suc n) (drop n ys) (omega arith)))
-    (cells_fit r (c + 1) (pen_at r c a) (wrapped_after_erasure flag (drop n ys)) n xs ys h (omega arith) fit.0.1 fit.1))
+    (cells_fit r (c + 1) (pen_in pen.form r c a) (wrapped_after_erasure flag (drop n ys)) n xs ys h (omega arith) fit.0.1 fit.1))
 cells_fit r c pen flag zero (glyph text wide a ∷ xs) (y ∷ ys) h l was fit =
     let k = glyph_columns wide - 1 in
-    let next = pen_at r (c + glyph_columns wide) a in
+    let next = pen_in pen.form r (c + glyph_columns wide) a in
     let now = wrapped_after_glyph flag wide (drop 1 ys) in
     let rest = cells_written r (c + 1) next now k xs ys in
     cond_both (same_cell (glyph text wide a) y) (cells_written r (c + 1) pen flag k xs ys)
@@ -140,7 +145,7 @@ after_fits r pen cells h some l was fit =
     let last = at_fits cells (last_column cells) fit in
     let again : Scripted = record {
       ops = placed_op pen r (last_column cells) (attrs_of (last_glyph cells)) (Print (text_of (last_glyph cells)));
-      pen = pen_after r cells;
+      pen = pen_after pen.form r cells;
       flag = true;
     } in
     cond_both (is_at pen r (length cells)) (no_ops pen true) again FitsWritten (λ _. record { ops = tt; attrs = was })
@@ -163,14 +168,14 @@ first_fits r pen flag (x ∷ xs) [] was fit = record { ops = tt; attrs = was }
 first_fits r pen flag (right_half ∷ xs) (y ∷ ys) was fit = record { ops = tt; attrs = was }
 first_fits r pen flag (blank a ∷ xs) (y ∷ ys) was fit = record {
   ops =
-      fits_append (attr_ops pen.attrs a) (Print (0x20 ∷ []) ∷ Backspace ∷ EraseChars 1 ∷ [])
-      (changing_fits pen.attrs a was fit.0.1) (space_fits, (tt, (omega arith, tt)));
+      fits_append (attr_ops_in pen.form pen.attrs a) (Print (0x20 ∷ []) ∷ Backspace ∷ EraseChars 1 ∷ [])
+      (changing_fits pen.form pen.attrs a was fit.0.1) (space_fits, (tt, (omega arith, tt)));
   attrs = fit.0.1;
 }
 first_fits r pen flag (glyph text wide a ∷ xs) (y ∷ ys) was fit = record {
   ops =
-      fits_append (attr_ops pen.attrs a) (Print text ∷ [])
-      (changing_fits pen.attrs a was fit.0.1) (printable_text text wide fit.0.0, tt);
+      fits_append (attr_ops_in pen.form pen.attrs a) (Print text ∷ [])
+      (changing_fits pen.form pen.attrs a was fit.0.1) (printable_text text wide fit.0.0, tt);
   attrs = fit.0.1;
 }
 
@@ -199,11 +204,11 @@ broken_fits r pen flag wanted cells h some l was fit =
     cond_both (flag && not wanted) (break_ops r pen cells) (no_ops pen flag) FitsWritten
     (λ _. record {
       ops =
-          fits_append (move_ops pen r (last_column cells)) (EraseChars 1 ∷ (attr_ops pen.attrs a ++ Print text ∷ []))
+          fits_append (move_ops pen r (last_column cells)) (EraseChars 1 ∷ (attr_ops_in pen.form pen.attrs a ++ Print text ∷ []))
           (going_fits pen r (last_column cells) h (last_low cells some l)) (
             omega arith,
-            fits_append (attr_ops pen.attrs a) (Print text ∷ [])
-                (changing_fits pen.attrs a was last.1) (text_fits (last_glyph cells) last.0, tt),
+            fits_append (attr_ops_in pen.form pen.attrs a) (Print text ∷ [])
+                (changing_fits pen.form pen.attrs a was last.1) (text_fits (last_glyph cells) last.0, tt),
           );
       attrs = last.1;
     })
@@ -291,12 +296,12 @@ pending_fits None pen width rows r near lt h some l was fit =
     let b = attrs_of (at (row_or width rows r).cells (width - 1)) in
     fits_append (move_ops pen r (width - 1))
     (Print (0x20 ∷ [])
-    ∷ (attr_ops pen.attrs b ++ (SaveCursor ∷ Backspace ∷ EraseChars 1 ∷ RestoreCursor ∷ attr_ops b pen.attrs)))
+    ∷ (attr_ops_in pen.form pen.attrs b ++ (SaveCursor ∷ Backspace ∷ EraseChars 1 ∷ RestoreCursor ∷ attr_ops_in pen.form b pen.attrs)))
     (going_fits pen r (width - 1) (omega arith) (omega arith)) (
       space_fits,
-      fits_append (attr_ops pen.attrs b) (SaveCursor ∷ Backspace ∷ EraseChars 1 ∷ RestoreCursor ∷ attr_ops b pen.attrs)
-          (changing_fits pen.attrs b was last.1)
-          (tt, (tt, (omega arith, (tt, changing_fits b pen.attrs last.1 was)))),
+      fits_append (attr_ops_in pen.form pen.attrs b) (SaveCursor ∷ Backspace ∷ EraseChars 1 ∷ RestoreCursor ∷ attr_ops_in pen.form b pen.attrs)
+          (changing_fits pen.form pen.attrs b was last.1)
+          (tt, (tt, (omega arith, (tt, changing_fits pen.form b pen.attrs last.1 was)))),
     )
 pending_fits (Some i) pen width rows r near lt h some l was fit =
     let row = row_at_fits width rows i fit (omega arith) in
@@ -304,9 +309,9 @@ pending_fits (Some i) pen width rows r near lt h some l was fit =
     let cells = (row_or width rows i).cells in
     let w = after_last_glyph i pen cells in
     let one = after_fits i pen cells (omega arith) (omega arith) (omega arith) was row.cells in
-    fits_append w.ops (attr_ops w.pen.attrs pen.attrs ++ replicate (r - i) LineFeed) one.ops
-    (fits_append (attr_ops w.pen.attrs pen.attrs) (replicate (r - i) LineFeed)
-    (changing_fits w.pen.attrs pen.attrs one.attrs was) (feeds_fit (r - i)))
+    fits_append w.ops (attr_ops_in pen.form w.pen.attrs pen.attrs ++ replicate (r - i) LineFeed) one.ops
+    (fits_append (attr_ops_in pen.form w.pen.attrs pen.attrs) (replicate (r - i) LineFeed)
+    (changing_fits pen.form w.pen.attrs pen.attrs one.attrs was) (feeds_fit (r - i)))
 
 cursor_fits : (pen : Pen) (width : ℕ) (rows : List RowValue) (r c : ℕ) → r < length rows →
     length rows < 2 ^ 16 → 0 < width → width < 2 ^ 16 → FitsAttrs pen.attrs →
@@ -341,33 +346,41 @@ picture_fits self is colors =
     fit_rows self.width self.rows (recursion_from_All (IsRow self.width) self.rows is.rows)
     (recursion_from_All (λ row. All (λ cell. FitsAttrs (attrs_of cell)) row.cells) self.rows colors.cells)
 
-script_fits : (self prev : Picture) → IsPicture self →
-    IsColoredPicture self → FitsAttrs prev.attrs → AllFit (script self prev)
-unfolding script
-script_fits self prev is colors was =
-    let w = rows_written (pen_of prev) self.rows prev.rows in
+script_fits : (form : Form) (self prev : Picture) → IsPicture self →
+    IsColoredPicture self → FitsAttrs prev.attrs → AllFit (script_in form self prev)
+unfolding script_in
+script_fits form self prev is colors was =
+    let w = rows_written (pen_of form prev) self.rows prev.rows in
     let fit = picture_fits self is colors in
     let rows =
-    rows_fit self.width (pen_of prev) self.rows prev.rows colors.height is.has_columns colors.columns was fit in
+    rows_fit self.width (pen_of form prev) self.rows prev.rows colors.height is.has_columns colors.columns was fit in
     fits_append w.ops
-    (cursor_written w.pen self.width self.rows self.row self.column ++ attr_ops w.pen.attrs self.attrs) rows.ops
-    (fits_append (cursor_written w.pen self.width self.rows self.row self.column) (attr_ops w.pen.attrs self.attrs)
+    (cursor_written w.pen self.width self.rows self.row self.column ++ attr_ops_in form w.pen.attrs self.attrs) rows.ops
+    (fits_append (cursor_written w.pen self.width self.rows self.row self.column) (attr_ops_in form w.pen.attrs self.attrs)
     (cursor_fits w.pen self.width self.rows self.row self.column
     is.cursor_row colors.height is.has_columns colors.columns rows.attrs fit)
-    (changing_fits w.pen.attrs self.attrs rows.attrs colors.attrs))
+    (changing_fits form w.pen.attrs self.attrs rows.attrs colors.attrs))
+
+pub difference_fits_in : (form : Form) (self prev : Picture) → IsPicture self → IsColoredPicture self →
+    FitsAttrs prev.attrs → AllByRecursion Fits (difference_in form self prev)
+unfolding difference_in
+difference_fits_in form self prev is colors was =
+    fits_append (cursor_visibility_ops self prev) (script_in form self prev)
+    (cond_both (same_bool self.hidden prev.hidden) [] (Hide self.hidden ∷ []) AllFit (λ _. tt) (λ _. (tt, tt)))
+    (script_fits form self prev is colors was)
 
 pub difference_fits : (self prev : Picture) → IsPicture self → IsColoredPicture self →
     FitsAttrs prev.attrs → AllByRecursion Fits (difference self prev)
-unfolding difference
-difference_fits self prev is colors was =
-    fits_append (cursor_visibility_ops self prev) (script self prev)
-    (cond_both (same_bool self.hidden prev.hidden) [] (Hide self.hidden ∷ []) AllFit (λ _. tt) (λ _. (tt, tt)))
-    (script_fits self prev is colors was)
+difference_fits = difference_fits_in Fixed
+
+pub redraw_fits_in : (form : Form) (self : Picture) → IsPicture self → IsColoredPicture self →
+    AllByRecursion Fits (redraw_in form self)
+unfolding redraw_in
+redraw_fits_in form self is colors =
+    (tt, (tt, ((omega arith, omega arith), (tt, script_fits form self (blank_like self) is colors (tt, tt)))))
 
 pub redraw_fits : (self : Picture) → IsPicture self → IsColoredPicture self → AllByRecursion Fits (redraw self)
-unfolding redraw
-redraw_fits self is colors =
-    (tt, (tt, ((omega arith, omega arith), (tt, script_fits self (blank_like self) is colors (tt, tt)))))
+redraw_fits = redraw_fits_in Fixed
 
 -- ---- the cursor alone
 
@@ -384,8 +397,8 @@ alone_fits None width rows r near lt h some l fit =
         space_fits,
         fits_append (attr_ops default_attrs b)
             (SaveCursor ∷ Backspace ∷ EraseChars 1 ∷ RestoreCursor ∷ attr_ops b default_attrs)
-            (changing_fits default_attrs b plain last.1)
-            (tt, (tt, (omega arith, (tt, changing_fits b default_attrs last.1 plain)))),
+            (changing_fits Fixed default_attrs b plain last.1)
+            (tt, (tt, (omega arith, (tt, changing_fits Fixed b default_attrs last.1 plain)))),
       ),
     )
 alone_fits (Some i) width rows r near lt h some l fit =
@@ -398,10 +411,10 @@ alone_fits (Some i) width rows r near lt h some l fit =
       (omega arith, last_low cells (omega arith) (omega arith)),
       fits_append (attr_ops default_attrs a)
           (Print (text_of (last_glyph cells)) ∷ (attr_ops a default_attrs ++ replicate (r - i) LineFeed))
-          (changing_fits default_attrs a plain last.1) (
+          (changing_fits Fixed default_attrs a plain last.1) (
             text_fits (last_glyph cells) last.0,
             fits_append (attr_ops a default_attrs) (replicate (r - i) LineFeed)
-                (changing_fits a default_attrs last.1 plain) (feeds_fit (r - i)),
+                (changing_fits Fixed a default_attrs last.1 plain) (feeds_fit (r - i)),
           ),
     )
 

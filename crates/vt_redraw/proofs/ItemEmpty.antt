@@ -15,9 +15,9 @@ use Rattle.vt_rows.specs.Row.{RowValue, IsRow}
 use Rattle.vt_grid.specs.Page.{row_or}
 use Rattle.vt_redraw.specs.Items.{in_range, with_whole_start, with_whole_start_over, range_written, is_whole, item_of_difference}
 use Rattle.vt_redraw.specs.Picture.{Picture, IsPicture, SamePictureSize}
-use Rattle.vt_redraw.specs.Script.{Scripted, no_ops, ops_then, pen_at, move_ops, attr_ops, placed_op, blank_run}
+use Rattle.vt_redraw.specs.Script.{Scripted, no_ops, ops_then, pen_at, move_ops, placed_op, blank_run, pen_in}
 use Rattle.vt_redraw.specs.Script.{cells_written, erase_run, last_column, wrapped_after_erasure, wrapped_after_glyph}
-use Rattle.vt_redraw.specs.Script.{after_last_glyph, is_at, last_glyph, pen_after, row_break}
+use Rattle.vt_redraw.specs.Script.{after_last_glyph, is_at, last_glyph, pen_after, row_break, attr_ops_in}
 use Rattle.vt_redraw.specs.declared.pen.Pen.{Pen}
 use Rattle.vt_redraw.proofs.Edits.{glyph_cells}
 use Rattle.vt_redraw.proofs.Flags.{ends, ends_is}
@@ -37,8 +37,8 @@ none_of_ops xs ys h = none_of (bytes_of_all xs) (bytes_of_all ys) (sym (bytes_of
 
 no_doing : (pen : Pen) (r c : ℕ) (a : Attrs) (op : Op) → bytes_of_all (placed_op pen r c a op) ≡ [] → bytes_of op ≡ []
 no_doing pen r c a op h =
-    let one = none_of_ops (move_ops pen r c) (attr_ops pen.attrs a ++ op ∷ []) h in
-    let two = none_of_ops (attr_ops pen.attrs a) (op ∷ []) one.1 in
+    let one = none_of_ops (move_ops pen r c) (attr_ops_in pen.form pen.attrs a ++ op ∷ []) h in
+    let two = none_of_ops (attr_ops_in pen.form pen.attrs a) (op ∷ []) one.1 in
     (none_of (bytes_of op) [] two.1).0
 
 some_chars : (n : ℕ) → bytes_of (EraseChars (suc n)) ≡ [] → ⊥
@@ -74,7 +74,7 @@ cells_none r c pen flag (blank a ∷ xs) (y ∷ ys) e h k is none =
         same_cell (blank a) y ≡ t →
         bytes_of_all (if t then cells_written r (c + 1) pen flag 0 xs ys
         else ops_then (placed_op pen r c a (erase_run (suc (blank_run a xs)) (drop (blank_run a xs) ys)))
-        (cells_written r (c + 1) (pen_at r c a) (wrapped_after_erasure flag (drop (blank_run a xs) ys)) (blank_run a xs) xs ys)).ops
+        (cells_written r (c + 1) (pen_in pen.form r c a) (wrapped_after_erasure flag (drop (blank_run a xs) ys)) (blank_run a xs) xs ys)).ops
         ≡ [] →
         blank a ∷ xs ≡ y ∷ ys
     by_test more true t none =
@@ -93,7 +93,7 @@ cells_none r c pen flag (glyph text false a ∷ xs) (y ∷ ys) e h k is none =
         same_cell (glyph text false a) y ≡ t →
         bytes_of_all (if t then cells_written r (c + 1) pen flag 0 xs ys
         else ops_then (placed_op pen r c a (Print text))
-        (cells_written r (c + 1) (pen_at r (c + 1) a) (wrapped_after_glyph flag false (drop 1 ys)) 0 xs ys)).ops
+        (cells_written r (c + 1) (pen_in pen.form r (c + 1) a) (wrapped_after_glyph flag false (drop 1 ys)) 0 xs ys)).ops
         ≡ [] →
         glyph text false a ∷ xs ≡ y ∷ ys
     by_test more true t none =
@@ -128,7 +128,7 @@ cells_none r c pen flag (glyph text true a ∷ right_half ∷ xs) (y ∷ z ∷ y
         same_cell (glyph text true a) y ≡ t →
         bytes_of_all (if t then cells_written r (c + 1) pen flag 1 (right_half ∷ xs) (z ∷ ys)
         else ops_then (placed_op pen r c a (Print text))
-        (cells_written r (c + 1) (pen_at r (c + 2) a)
+        (cells_written r (c + 1) (pen_in pen.form r (c + 2) a)
         (wrapped_after_glyph flag true (drop 1 (z ∷ ys))) 1 (right_half ∷ xs) (z ∷ ys))).ops
         ≡ [] →
         glyph text true a ∷ right_half ∷ xs ≡ y ∷ z ∷ ys
@@ -171,7 +171,7 @@ end_none r true false cells some h is full none =
     let pen = pen_at r 0 default_attrs in
     absurd (some_chars 0 (none_of (bytes_of (EraseChars 1)) _
     (none_of_ops (move_ops pen r (last_column cells))
-    (EraseChars 1 ∷ (attr_ops pen.attrs (attrs_of (last_glyph cells)) ++ Print (text_of (last_glyph cells)) ∷ []))
+    (EraseChars 1 ∷ (attr_ops_in pen.form pen.attrs (attrs_of (last_glyph cells)) ++ Print (text_of (last_glyph cells)) ∷ []))
     none).1).0)
 end_none r false true cells some h is full none =
     let pen = pen_at r 0 default_attrs in
@@ -183,7 +183,7 @@ end_none r false true cells some h is full none =
     (if b then no_ops pen true
     else record {
       ops = placed_op pen r (last_column cells) (attrs_of (last_glyph cells)) (Print (text_of (last_glyph cells)));
-      pen = pen_after r cells;
+      pen = pen_after pen.form r cells;
       flag = true;
     }).ops)
     (sym t)

@@ -10,7 +10,8 @@ use Rattle.vt_rows.specs.Cells.{at, cells_after_cut}
 use Rattle.vt_rows.specs.Row.{RowValue}
 use Rattle.vt_grid.specs.Canvas.{Canvas}
 use Rattle.vt_cells.specs.Glyph.{glyph_columns}
-use Rattle.vt_redraw.specs.Script.{pen_at, attr_ops}
+use Rattle.vt_redraw.specs.Script.{pen_at, pen_in, attr_ops_in}
+use Rattle.vt_redraw.specs.declared.form.Form.{Form}
 use Rattle.vt_redraw.specs.declared.pen.Pen.{Pen}
 use Rattle.vt_redraw.proofs.Steps.{Reads, Within, changing_draws}
 use Rattle.vt_redraw.specs.Script.{Linked, first_written, is_nil, is_torn, no_link, wrapped_after_glyph}
@@ -41,17 +42,17 @@ pub record Joins (May : ℕ → ℕ → Type 0) (j : Linked) (base : Canvas) (do
   pub within : Within j.pen height base.page.width
 
 -- With a wrap pending, a glyph is printed at the beginning of the next row.
-first_glyph : (May : ℕ → ℕ → Type 0) (base : Canvas) (done below : List RowValue) (above : List CellValue) (on : Bool)
+first_glyph : (May : ℕ → ℕ → Type 0) (form : Form) (base : Canvas) (done below : List RowValue) (above : List CellValue) (on : Bool)
     (y : CellValue) (ys : List CellValue) (flag : Bool) (r : ℕ) (b : Attrs) (text : List ℕ) (wide : Bool) (a : Attrs) →
     length done ≡ r →
     base.page.bottom + 1 ≡ length done + suc (suc (length below)) → ends above ≡ false →
     Paired (y ∷ ys) → Sound flag (y ∷ ys) → glyph_columns wide ≤ base.page.width →
     Prints base.page.width text wide → MayGlyph May (r + 1) 0 wide ys →
-    DrawsIn May (attr_ops b a ++ Print text ∷ [])
+    DrawsIn May (attr_ops_in form b a ++ Print text ∷ [])
     (two base done below above on (y ∷ ys) flag (pen_at r base.page.width b))
     (mid base (done ++ row_of above true ∷ []) below (with_glyph [] text wide a ys)
     (wrapped_after_glyph flag wide (drop 1 ys)) (pen_at (r + 1) (0 + glyph_columns wide) a))
-first_glyph May base done below above on y ys flag r b text wide a e bottom full paired sound fits prints may =
+first_glyph May form base done below above on y ys flag r b text wide a e bottom full paired sound fits prints may =
     let top = done ++ row_of above true ∷ [] in
     let n : length top ≡ r + 1 = let l = length-append done (row_of above true ∷ []) in omega arith in
     let whole = opened_paired default_blank (y ∷ ys) paired in
@@ -66,9 +67,9 @@ first_glyph May base done below above on y ys flag r b text wide a e bottom full
     ∙ ap (λ (z : List CellValue). mid base top below z flag (pen_at (r + 1) 0 a)) (sym whole)) in
     let d1 = two base done below above on (y ∷ ys) flag (pen_at r base.page.width a) in
     let d0 = two base done below above on (y ∷ ys) flag (pen_at r base.page.width b) in
-    in_then May (attr_ops b a) (Print text ∷ []) d0 d1 goal
-    (quiet_in May (attr_ops b a) d0 d1 (changing_quiet b a)
-    (changing_draws base (done ++ row_of above on ∷ row_of (y ∷ ys) flag ∷ below) (pen_at r base.page.width b) a))
+    in_then May (attr_ops_in form b a) (Print text ∷ []) d0 d1 goal
+    (quiet_in May (attr_ops_in form b a) d0 d1 (changing_quiet form b a)
+    (changing_draws form base (done ++ row_of above on ∷ row_of (y ∷ ys) flag ∷ below) (pen_at r base.page.width b) a))
     (print_in_wraps May base done below above on (y ∷ ys) flag r a text wide goal e bottom prints
     (subst (λ (c : Canvas). DrawsIn May (Print text ∷ []) c goal) (sym there)
     (print_in May base top below [] default_blank y ys flag (r + 1) 0 text wide a prints spot may)))
@@ -140,27 +141,27 @@ glyph_sound y ys flag text wide a paired sound =
     (subst (Sound flag) (sym (opened_paired default_blank (y ∷ ys) paired)) sound))
 
 -- With a wrap pending and the current attributes `b`, the first cell of a row is drawn.
-pub first_draws : (May : ℕ → ℕ → Type 0) (base : Canvas) (done below : List RowValue)
+pub first_draws : (May : ℕ → ℕ → Type 0) (form : Form) (base : Canvas) (done below : List RowValue)
     (above xs ys : List CellValue) (on flag : Bool) (r height : ℕ) (b : Attrs) →
     length done ≡ r → base.page.bottom + 1 ≡ height → r + suc (suc (length below)) ≡ height →
     length xs ≡ base.page.width → length ys ≡ base.page.width → 0 < base.page.width →
     ends above ≡ false → Paired xs → Paired ys → Sound flag ys → PrintsCells base.page.width xs →
     Lets May (r + 1) 0 xs ys → May (r + 1) 0 → (is_wide (at xs 0) ≡ true → May (r + 1) 1) →
-    Joins May (first_written (r + 1) (pen_at r base.page.width b) flag xs ys) base done below
+    Joins May (first_written (r + 1) (pen_in form r base.page.width b) flag xs ys) base done below
     (two base done below above on ys flag (pen_at r base.page.width b)) above true xs ys height
-first_draws May base done below above [] ys on flag r height b e
+first_draws May form base done below above [] ys on flag r height b e
     bottom rows hx hy pos full h k sound prints lets begin second = absurd (omega arith)
-first_draws May base done below above (x ∷ xs) [] on flag r height b
+first_draws May form base done below above (x ∷ xs) [] on flag r height b
     e bottom rows hx hy pos full h k sound prints lets begin second = absurd (omega arith)
-first_draws May base done below above (right_half ∷ xs) (y ∷ ys) on flag r
+first_draws May form base done below above (right_half ∷ xs) (y ∷ ys) on flag r
     height b e bottom rows hx hy pos full h k sound prints lets begin second = absurd h
-first_draws May base done below above (glyph text false a ∷ xs) (y ∷ ys) on flag
+first_draws May form base done below above (glyph text false a ∷ xs) (y ∷ ys) on flag
     r height b e bottom rows hx hy pos full h k sound prints lets begin second =
     let now = wrapped_after_glyph flag false (drop 1 ys) in
     record {
       torn = orphan false a;
-      draws = in_to May (attr_ops b a ++ Print text ∷ []) _ _ _
-          (first_glyph May base done below above on y ys flag r b text
+      draws = in_to May (attr_ops_in form b a ++ Print text ∷ []) _ _ _
+          (first_glyph May form base done below above on y ys flag r b text
           false a e (omega arith) full k sound (omega arith) prints.0
           (record {
             first = begin;
@@ -179,7 +180,7 @@ first_draws May base done below above (glyph text false a ∷ xs) (y ∷ ys) on 
       };
       within = record { row = omega arith; col = omega arith };
     }
-first_draws May base done below above (blank a ∷ xs) (y ∷ ys) on flag r
+first_draws May form base done below above (blank a ∷ xs) (y ∷ ys) on flag r
     height b e bottom rows hx hy pos full h k sound prints lets begin second =
     let top = done ++ row_of above true ∷ [] in
     let n : length top ≡ r + 1 = let l = length-append done (row_of above true ∷ []) in omega arith in
@@ -191,9 +192,9 @@ first_draws May base done below above (blank a ∷ xs) (y ∷ ys) on flag r
     record {
       torn = orphan false a;
       draws =
-          regrouped (attr_ops b a) (Print (0x20 ∷ [])) (Backspace ∷ EraseChars 1 ∷ [])
+          regrouped (attr_ops_in form b a) (Print (0x20 ∷ [])) (Backspace ∷ EraseChars 1 ∷ [])
           start spaced (two base done below above true goal now (pen_at (r + 1) 0 a))
-          (first_glyph May base done below above on y ys flag r b (0x20 ∷ []) false a
+          (first_glyph May form base done below above on y ys flag r b (0x20 ∷ []) false a
           e (omega arith) full k sound (omega arith) (space_prints base.page.width pos)
           (record {
             first = begin;
@@ -221,21 +222,21 @@ first_draws May base done below above (blank a ∷ xs) (y ∷ ys) on flag r
     regrouped ops op more a b c h k =
         subst (λ (z : List Op). DrawsIn May z a c) (append_assoc ops (op ∷ []) more)
         (in_then May (ops ++ op ∷ []) more a b c h k)
-first_draws May base done below above (glyph text true a ∷ []) (y ∷ ys) on flag
+first_draws May form base done below above (glyph text true a ∷ []) (y ∷ ys) on flag
     r height b e bottom rows hx hy pos full h k sound prints lets begin second = absurd h
-first_draws May base done below above (glyph text true a ∷ blank c ∷ xs) (y ∷ ys) on
+first_draws May form base done below above (glyph text true a ∷ blank c ∷ xs) (y ∷ ys) on
     flag r height b e bottom rows hx hy pos full h k sound prints lets begin second = absurd h
-first_draws May base done below above (glyph text true a ∷ glyph other wide c ∷ xs) (y ∷ ys)
+first_draws May form base done below above (glyph text true a ∷ glyph other wide c ∷ xs) (y ∷ ys)
     on flag r height b e bottom rows hx hy pos full h k sound prints lets begin second = absurd h
-first_draws May base done below above (glyph text true a ∷ right_half ∷ xs) (y ∷ []) on
+first_draws May form base done below above (glyph text true a ∷ right_half ∷ xs) (y ∷ []) on
     flag r height b e bottom rows hx hy pos full h k sound prints lets begin second = absurd (omega arith)
-first_draws May base done below above (glyph text true a ∷ right_half ∷ xs) (y ∷ y2 ∷ ys)
+first_draws May form base done below above (glyph text true a ∷ right_half ∷ xs) (y ∷ y2 ∷ ys)
     on flag r height b e bottom rows hx hy pos full h k sound prints lets begin second =
     let now = wrapped_after_glyph flag true ys in
     record {
       torn = orphan true a;
-      draws = in_to May (attr_ops b a ++ Print text ∷ []) _ _ _
-          (first_glyph May base done below above on y (y2 ∷ ys) flag r b
+      draws = in_to May (attr_ops_in form b a ++ Print text ∷ []) _ _ _
+          (first_glyph May form base done below above on y (y2 ∷ ys) flag r b
           text true a e (omega arith) full k sound (omega arith) prints.0
           (record {
             first = begin;
@@ -344,7 +345,7 @@ link_draws May base done below above xs ys on flag r height pen reads e
     (subst (λ (q : Pen). Joins May (first_written (r + 1) q flag xs ys) base
     done below (two base done below above on ys flag q) above true xs ys height)
     (sym goes.there)
-    (first_draws May base done below above xs ys on flag r height behind.pen.attrs e
+    (first_draws May behind.pen.form base done below above xs ys on flag r height behind.pen.attrs e
     reads.bottom rows hx hy reads.has_columns full h k sound prints may.0 may.1 may.2)))
     (λ (t : test ≡ false). no_join May base done below above xs ys on true flag pen height
     (stays_on on (is_at pen r (length above) && starts_other xs ys) t) (hx ∙ sym hy) h k sound within)

@@ -1,6 +1,6 @@
 -- Lower bounds on the length of a redraw.
 use Rattle.std.proofs.Common.{◌≡◌, ℕ, zero, suc, ◌+◌, ◌-◌, ◌<◌, ◌≤◌, Bool, true, false, List, [], ◌∷◌, ◌++◌, length, refl}
-use Rattle.std.proofs.Common.{ap, sym, subst, ◌∙◌, arith, take, drop, length-append}
+use Rattle.std.proofs.Common.{ap, sym, subst, ◌∙◌, arith, take, drop, length-append, append-nil}
 use Rattle.std.specs.Prelude.{All, Option, Some, None, replicate, slice_index_or, ◌||◌, ◌&&◌, not, if◌then◌else◌}
 use Rattle.std.specs.List.{AllByRecursion}
 use Rattle.std.proofs.Math.Numerals.{one-add}
@@ -12,24 +12,28 @@ use Rattle.vt_cells.specs.Cell.{CellValue, IsCell, default_blank, blank, glyph, 
 use Rattle.vt_cells.specs.CellInternals.{HeadValue, head_of_cell}
 use Rattle.vt_cells.specs.Glyph.{glyph_columns}
 use Rattle.vt_cells.specs.Op.{ClearAttrs, EraseBelow, Hide, MoveTo, Op, Print, bytes_of, bytes_of_all, change_numbers}
-use Rattle.vt_cells.specs.Op.{change_text, csi, semicolon_list}
+use Rattle.vt_cells.specs.Op.{change_text, csi, semicolon_list, ChangeAttrs}
 use Rattle.vt_cells.proofs.Glyphs.{IsGlyphText-length}
 use Rattle.vt_cells.proofs.Same.{same_attrs-itself}
 use Rattle.vt_cells.proofs.Texts.{bytes_of_all-append}
 use Rattle.vt_rows.specs.Cells.{at, blanks}
 use Rattle.vt_rows.specs.Row.{RowValue, IsRow, blank_row}
 use Rattle.vt_grid.specs.Page.{row_or}
+use Rattle.vt_redraw.specs.declared.form.Form.{Form}
+use Rattle.vt_redraw.specs.declared.form.Form.TheVariants.{Fixed}
 use Rattle.vt_redraw.specs.declared.pen.Pen.{Pen}
 use Rattle.vt_redraw.specs.Limited.{IsEach, change_least, drawn_least, is_undrawn, rows_drawn_least}
 use Rattle.vt_redraw.specs.Picture.{Picture}
 use Rattle.vt_redraw.specs.Redraw.{blank_like, cursor_written, link_of, pen_of, redraw, row_written, rows_below}
-use Rattle.vt_redraw.specs.Redraw.{rows_written, script}
+use Rattle.vt_redraw.specs.Redraw.{rows_written, script, script_in, redraw_in}
 use Rattle.vt_redraw.specs.Script.{Linked, Scripted, after_last_glyph, attr_ops, blank_run, cells_written, erase_run}
-use Rattle.vt_redraw.specs.Script.{first_written, is_at, is_blank_of, move_ops, no_link, ops_then, ops_then_link, pen_at}
+use Rattle.vt_redraw.specs.Script.{first_written, is_at, is_blank_of, move_ops, no_link, ops_then, ops_then_link}
 use Rattle.vt_redraw.specs.Script.{placed_op, row_break, row_link, starts_other, wrapped_after_erasure, wrapped_after_glyph}
 use Rattle.vt_redraw.proofs.Halves.{Loose, Paired, loose_step, paired_loose, paired_of}
 use Rattle.vt_redraw.proofs.Runs.{blank_of_is}
 use Rattle.vt_redraw.proofs.Writing.{changing_bytes}
+use Rattle.vt_redraw.specs.Script.{pen_in, change_ops, resets}
+use Rattle.vt_redraw.specs.Script.{attr_ops_in}
 
 -- The number of bytes of the output of some operations.
 abbrev bytes_len : List Op → ℕ
@@ -48,32 +52,44 @@ changed_least : (same : Bool) (text : List ℕ) → 3 ≤ length text →
 changed_least true text h = omega arith
 changed_least false text h = h
 
--- A change of attributes is at least as long as its lower bound.
-attrs_least : (was new : Attrs) → change_least (Some was) new ≤ bytes_len (attr_ops was new)
+-- The text of a change to attributes that differ.
+change_long : (was new : Attrs) → same_attrs was new ≡ false → 3 ≤ length (change_text was new)
 unfolding change_text
-attrs_least was new =
+change_long was new f =
     let to_default = csi [] 0x6D in
     let to_other = csi (semicolon_list (change_numbers was new)) 0x6D in
     let changed = cond_both (same_attrs new default_attrs) to_default to_other (λ (text : List ℕ). 3 ≤ length text)
     (λ _. csi_len [] 0x6D) (λ _. csi_len (semicolon_list (change_numbers was new)) 0x6D) in
-    let least = changed_least (same_attrs was new) (if same_attrs new default_attrs then to_default else to_other) changed in
-    let same = ap length (changing_bytes was new) in
-    omega (arith, least, same)
+    rw f changed
+
+-- A change of attributes is at least as long as its lower bound.
+attrs_least : (form : Form) (was new : Attrs) → change_least (Some was) new ≤ bytes_len (attr_ops_in form was new)
+unfolding attr_ops_in
+attrs_least form was new = by_test (same_attrs was new) refl where
+  by_test : (b : Bool) → same_attrs was new ≡ b →
+      (if b then 0 else 3) ≤ bytes_len (if b then [] else change_ops form was new)
+  by_test true t = omega arith
+  by_test false f =
+      cond_both (resets form was new) (ClearAttrs ∷ ChangeAttrs default_attrs new ∷ []) (ChangeAttrs was new ∷ [])
+      (λ (ops : List Op). 3 ≤ bytes_len ops)
+      (λ _. let more = bytes_both (ClearAttrs ∷ []) (ChangeAttrs default_attrs new ∷ []) in omega (arith, more))
+      (λ _. let long = change_long was new f in
+      let whole = ap length (append-nil (change_text was new)) in omega (arith, long, whole))
 
 -- An operation is at least as long as the change of attributes before it and its own bytes.
-changed_op_least : (was new : Attrs) (op : Op) (ops : List Op) →
-    change_least (Some was) new + length (bytes_of op) ≤ bytes_len (attr_ops was new ++ op ∷ ops)
-changed_op_least was new op ops =
-    let change = attrs_least was new in
-    let both = bytes_both (attr_ops was new) (op ∷ ops) in
+changed_op_least : (form : Form) (was new : Attrs) (op : Op) (ops : List Op) →
+    change_least (Some was) new + length (bytes_of op) ≤ bytes_len (attr_ops_in form was new ++ op ∷ ops)
+changed_op_least form was new op ops =
+    let change = attrs_least form was new in
+    let both = bytes_both (attr_ops_in form was new) (op ∷ ops) in
     let more = length-append (bytes_of op) (bytes_of_all ops) in
     omega (arith, change, both, more)
 
 placed_least : (pen : Pen) (row col : ℕ) (attrs : Attrs) (op : Op) →
     change_least (Some pen.attrs) attrs + length (bytes_of op) ≤ bytes_len (placed_op pen row col attrs op)
 placed_least pen row col attrs op =
-    let both = bytes_both (move_ops pen row col) (attr_ops pen.attrs attrs ++ op ∷ []) in
-    let least = changed_op_least pen.attrs attrs op [] in
+    let both = bytes_both (move_ops pen row col) (attr_ops_in pen.form pen.attrs attrs ++ op ∷ []) in
+    let least = changed_op_least pen.form pen.attrs attrs op [] in
     omega (arith, both, least)
 
 -- ---- cells
@@ -136,7 +152,7 @@ cells_least r c pen flag zero (blank a ∷ xs) (suc n) h le =
     let m = blank_run a xs in
     let ys = drop m (blanks default_attrs n) in
     let was = Some pen.attrs in
-    let rest = cells_written r (c + 1) (pen_at r c a) (wrapped_after_erasure flag ys) m xs (blanks default_attrs n) in
+    let rest = cells_written r (c + 1) (pen_in pen.form r c a) (wrapped_after_erasure flag ys) m xs (blanks default_attrs n) in
     let op = erase_run (suc m) ys in
     let erased = placed_op pen r c a op in
     cond_both (same_attrs a default_attrs) (cells_written r (c + 1) pen flag 0 xs (blanks default_attrs n))
@@ -147,7 +163,7 @@ cells_least r c pen flag zero (blank a ∷ xs) (suc n) h le =
     (change_least was a + (0 + drawn_least (Some a) xs)) t in
     omega (arith, least, none))
     (λ (f : same_attrs a default_attrs ≡ false).
-    let least = cells_least r (c + 1) (pen_at r c a) (wrapped_after_erasure flag ys) m xs n (loose_step (blank a) xs h)
+    let least = cells_least r (c + 1) (pen_in pen.form r c a) (wrapped_after_erasure flag ys) m xs n (loose_step (blank a) xs h)
     (omega (arith, le)) in
     let run = run_least a xs in
     let placed = placed_least pen r c a op in
@@ -157,7 +173,7 @@ cells_least r c pen flag zero (blank a ∷ xs) (suc n) h le =
     omega (arith, least, run, placed, both, some))
 cells_least r c pen flag zero (glyph text wide a ∷ xs) (suc n) h le =
     let k = glyph_columns wide - 1 in
-    let next = pen_at r (c + glyph_columns wide) a in
+    let next = pen_in pen.form r (c + glyph_columns wide) a in
     let on = wrapped_after_glyph flag wide (drop 1 (blanks default_attrs n)) in
     let rest = cells_written r (c + 1) next on k xs (blanks default_attrs n) in
     let least = cells_least r (c + 1) next on k xs n (loose_step (glyph text wide a) xs h) (omega (arith, le)) in
@@ -205,10 +221,10 @@ first_least r pen flag (blank a ∷ xs) (y ∷ ys) h =
     (λ (n : ℕ). n ≤ bytes_len (first_written r pen flag (blank a ∷ xs) (y ∷ ys)).ops + drawn_least (Some a) xs)
     (λ _. omega (arith, none)) (λ _. omega arith)
 first_least r pen flag (glyph text false a ∷ xs) (y ∷ ys) h =
-    let least = changed_op_least pen.attrs a (Print text) [] in
+    let least = changed_op_least pen.form pen.attrs a (Print text) [] in
     omega (arith, least)
 first_least r pen flag (glyph text true a ∷ right_half ∷ xs) (y ∷ ys) h =
-    let least = changed_op_least pen.attrs a (Print text) [] in
+    let least = changed_op_least pen.form pen.attrs a (Print text) [] in
     omega (arith, least)
 first_least r pen flag (glyph text true a ∷ []) (y ∷ ys) h = absurd h
 first_least r pen flag (glyph text true a ∷ blank b ∷ xs) (y ∷ ys) h = absurd h
@@ -274,14 +290,14 @@ rows_least width pen (suc k) (x ∷ xs) (suc n) all le =
 -- If the first `k` rows of a picture are valid, its redraw is at least as long as the lower bound for them.
 pub redraw_least : (picture : Picture) (k : ℕ) → All (IsRow picture.width) (take k picture.rows) →
     rows_drawn_least (take k picture.rows) ≤ length (bytes_of_all (redraw picture))
-unfolding redraw script
+unfolding redraw_in script_in
 redraw_least picture k all =
     let blank = blank_like picture in
     let start : List Op = Hide picture.hidden ∷ ClearAttrs ∷ MoveTo 0 0 ∷ EraseBelow ∷ [] in
-    let written = rows_written (pen_of blank) picture.rows blank.rows in
+    let written = rows_written (pen_of Fixed blank) picture.rows blank.rows in
     let end = cursor_written written.pen picture.width picture.rows picture.row picture.column
     ++ attr_ops written.pen.attrs picture.attrs in
-    let least = rows_least picture.width (pen_of blank) k picture.rows (length picture.rows)
+    let least = rows_least picture.width (pen_of Fixed blank) k picture.rows (length picture.rows)
     (recursion_from_All (IsRow picture.width) (take k picture.rows) all) (omega arith) in
     let rows = bytes_both written.ops end in
     let whole = bytes_both start (script picture blank) in

@@ -10,7 +10,7 @@ use Rattle.vt_cells.specs.Attrs.{Attrs}
 use Rattle.vt_rows.specs.Row.{RowValue}
 use Rattle.vt_grid.specs.Canvas.{Canvas}
 use Rattle.vt_cells.specs.Glyph.{glyph_columns}
-use Rattle.vt_redraw.specs.Script.{pen_at, move_ops, attr_ops}
+use Rattle.vt_redraw.specs.Script.{pen_at, move_ops, pen_in, attr_ops_in}
 use Rattle.vt_redraw.specs.declared.pen.Pen.{Pen}
 use Rattle.vt_redraw.proofs.Steps.{Reads, Within, changing_draws}
 use Rattle.vt_redraw.specs.Script.{Scripted, no_ops, placed_op, cells_written, last_column}
@@ -157,14 +157,14 @@ print_again May base done below pre text true a flag r prints e w h sound may =
 pub record GoesAfter (May : ℕ → ℕ → Type 0) (w : Scripted) (base : Canvas) (done below : List RowValue)
     (cells : List CellValue) (flag : Bool) (r : ℕ) (pen : Pen) : Type 0 where
   pub draws : DrawsIn May w.ops (mid base done below cells flag pen) (mid base done below cells flag w.pen)
-  pub there : w.pen ≡ pen_at r base.page.width w.pen.attrs
+  pub there : w.pen ≡ pen_in w.pen.form r base.page.width w.pen.attrs
 
-pub same_pen : (pen : Pen) (r c : ℕ) → is_at pen r c ≡ true → pen ≡ pen_at r c pen.attrs
+pub same_pen : (pen : Pen) (r c : ℕ) → is_at pen r c ≡ true → pen ≡ pen_in pen.form r c pen.attrs
 same_pen pen r c t =
     let both = and_parts (pen.row == r) (pen.col == c) t in
     let e = eqb-true pen.row r both.0 in
     let f = eqb-true pen.col c both.1 in
-    ap (λ (z : ℕ). pen_at z pen.col pen.attrs) e ∙ ap (λ (z : ℕ). pen_at r z pen.attrs) f
+    ap (λ (z : ℕ). pen_in pen.form z pen.col pen.attrs) e ∙ ap (λ (z : ℕ). pen_in pen.form r z pen.attrs) f
 
 pub going_after_draws : (May : ℕ → ℕ → Type 0) (base : Canvas) (done below : List RowValue)
     (xs : List CellValue) (flag : Bool) (r height : ℕ) (pen : Pen) →
@@ -176,7 +176,7 @@ pub going_after_draws : (May : ℕ → ℕ → Type 0) (base : Canvas) (done bel
 going_after_draws May base done below xs flag r height pen reads e rows w h full prints within may =
     let again : Scripted = record {
       ops = placed_op pen r (last_column xs) (attrs_of (last_glyph xs)) (Print (text_of (last_glyph xs)));
-      pen = pen_after r xs;
+      pen = pen_after pen.form r xs;
       flag = true;
     } in
     cond_both (is_at pen r (length xs)) (no_ops pen true) again
@@ -184,7 +184,7 @@ going_after_draws May base done below xs flag r height pen reads e rows w h full
     (λ (t : is_at pen r (length xs) ≡ true).
     record {
       draws = record { draws = refl; touches = tt };
-      there = same_pen pen r (length xs) t ∙ ap (λ (c : ℕ). pen_at r c pen.attrs) w;
+      there = same_pen pen r (length xs) t ∙ ap (λ (c : ℕ). pen_in pen.form r c pen.attrs) w;
     })
     (λ (t : is_at pen r (length xs) ≡ false). record {
       draws = last_cases
@@ -208,7 +208,7 @@ going_after_draws May base done below xs flag r height pen reads e rows w h full
           (prints_last base.page.width pre text wide a p) e (sym n ∙ size) front sound mays)
           (ap (λ (c : ℕ). mid base done below (pre ++ glyph_cells text wide a) flag (pen_at r c a)) (sym n))))
           xs h full prints w (λ _. full) (may t);
-      there = ap (λ (c : ℕ). pen_at r c (attrs_of (last_glyph xs))) w;
+      there = ap (λ (c : ℕ). pen_in pen.form r c (attrs_of (last_glyph xs))) w;
     })
   where
     some_columns : (wide : Bool) → 0 < glyph_columns wide
@@ -307,7 +307,7 @@ breaking_draws May base done below xs flag wanted r height pen reads e rows w h 
   draws = last_cases
       (λ z k x. PrintsCells base.page.width z → length z ≡ base.page.width →
       ((j : ℕ) → k ≤ j → j < base.page.width → May r j) →
-      DrawsIn May (move_ops pen r k ++ (EraseChars 1 ∷ (attr_ops pen.attrs (attrs_of x) ++ Print (text_of x) ∷ [])))
+      DrawsIn May (move_ops pen r k ++ (EraseChars 1 ∷ (attr_ops_in pen.form pen.attrs (attrs_of x) ++ Print (text_of x) ∷ [])))
       (mid base done below z flag pen) (mid base done below z false (pen_at r (length z) (attrs_of x))))
       (λ pre text wide a front p size mays.
       let n = length_glyph pre text wide a in
@@ -316,17 +316,17 @@ breaking_draws May base done below xs flag wanted r height pen reads e rows w h 
       let gone = pre ++ blanked wide pen.attrs in
       let c = length pre in
       let goal = mid base done below row false (pen_at r (length row) a) in
-      in_then May (move_ops pen r c) (EraseChars 1 ∷ (attr_ops pen.attrs a ++ Print text ∷ []))
+      in_then May (move_ops pen r c) (EraseChars 1 ∷ (attr_ops_in pen.form pen.attrs a ++ Print text ∷ []))
       (mid base done below row flag pen) (mid base done below row flag (pen_at r c pen.attrs)) goal
       (going_there May base done below row flag r c height pen reads e rows (omega arith) within)
-      (in_then May (EraseChars 1 ∷ []) (attr_ops pen.attrs a ++ Print text ∷ [])
+      (in_then May (EraseChars 1 ∷ []) (attr_ops_in pen.form pen.attrs a ++ Print text ∷ [])
       (mid base done below row flag (pen_at r c pen.attrs)) (mid base done below gone false (pen_at r c pen.attrs)) goal
       (erase_last May base done below pre text wide a pen.attrs flag r e (sym n ∙ size) front mays)
-      (in_then May (attr_ops pen.attrs a) (Print text ∷ [])
+      (in_then May (attr_ops_in pen.form pen.attrs a) (Print text ∷ [])
       (mid base done below gone false (pen_at r c pen.attrs)) (mid base done below gone false (pen_at r c a)) goal
-      (quiet_in May (attr_ops pen.attrs a) (mid base done below gone false (pen_at r c pen.attrs))
-      (mid base done below gone false (pen_at r c a)) (changing_quiet pen.attrs a)
-      (changing_draws base (done ++ row_of gone false ∷ below) (pen_at r c pen.attrs) a))
+      (quiet_in May (attr_ops_in pen.form pen.attrs a) (mid base done below gone false (pen_at r c pen.attrs))
+      (mid base done below gone false (pen_at r c a)) (changing_quiet pen.form pen.attrs a)
+      (changing_draws pen.form base (done ++ row_of gone false ∷ below) (pen_at r c pen.attrs) a))
       (in_to May (Print text ∷ []) (mid base done below gone false (pen_at r c a))
       (mid base done below row false (pen_at r (c + glyph_columns wide) a)) goal
       (print_bare May base done below pre text wide pen.attrs a r

@@ -9,7 +9,7 @@ use Rattle.vt_cells.specs.Attrs.{Attrs}
 use Rattle.vt_rows.specs.Cells.{at, blanks, cells_after_cut}
 use Rattle.vt_rows.specs.Row.{RowValue}
 use Rattle.vt_grid.specs.Canvas.{Canvas}
-use Rattle.vt_redraw.specs.Script.{pen_at, move_ops, attr_ops, erase_run}
+use Rattle.vt_redraw.specs.Script.{pen_at, move_ops, erase_run, attr_ops_in}
 use Rattle.vt_redraw.specs.declared.pen.Pen.{Pen}
 use Rattle.vt_grid.proofs.Drawing.{Draws}
 use Rattle.vt_redraw.proofs.Steps.{at_pen, Reads, Within, going_draws, changing_draws}
@@ -119,16 +119,16 @@ pub doing_draws : (May : ℕ → ℕ → Type 0) (base : Canvas) (done below : L
     DrawsIn May (placed_op pen r c attrs op) (mid base done below row flag pen) goal
 doing_draws May base done below row flag r c height pen attrs op goal reads e h lt within draws =
     let rows = done ++ row_of row flag ∷ below in
-    in_then May (move_ops pen r c) (attr_ops pen.attrs attrs ++ op ∷ [])
+    in_then May (move_ops pen r c) (attr_ops_in pen.form pen.attrs attrs ++ op ∷ [])
     (at_pen base rows pen) (at_pen base rows (pen_at r c pen.attrs)) goal
     (quiet_in May (move_ops pen r c) (at_pen base rows pen) (at_pen base rows (pen_at r c pen.attrs)) (going_quiet pen r c)
     (going_draws base rows pen r c height base.page.width reads
     (rows_size done below (row_of row flag) r height e h) within (omega arith) lt))
-    (in_then May (attr_ops pen.attrs attrs) (op ∷ [])
+    (in_then May (attr_ops_in pen.form pen.attrs attrs) (op ∷ [])
     (at_pen base rows (pen_at r c pen.attrs)) (at_pen base rows (pen_at r c attrs)) goal
-    (quiet_in May (attr_ops pen.attrs attrs) (at_pen base rows (pen_at r c pen.attrs))
-    (at_pen base rows (pen_at r c attrs)) (changing_quiet pen.attrs attrs)
-    (changing_draws base rows (pen_at r c pen.attrs) attrs))
+    (quiet_in May (attr_ops_in pen.form pen.attrs attrs) (at_pen base rows (pen_at r c pen.attrs))
+    (at_pen base rows (pen_at r c attrs)) (changing_quiet pen.form pen.attrs attrs)
+    (changing_draws pen.form base rows (pen_at r c pen.attrs) attrs))
     draws)
 
 pub going_there : (May : ℕ → ℕ → Type 0) (base : Canvas) (done below : List RowValue)

@@ -12,7 +12,9 @@ use Rattle.vt_grid.specs.Page.{IsPlainPage}
 use Rattle.vt_grid.specs.Canvas.{Canvas, drawn_all}
 use Rattle.vt_redraw.specs.Picture.{Picture, IsPicture, picture_of, SamePictureSize, with_saved, with_picture}
 use Rattle.vt_redraw.specs.Steady.{IsSteady}
-use Rattle.vt_redraw.specs.Redraw.{script, blank_like, redraw}
+use Rattle.vt_redraw.specs.Redraw.{script_in, blank_like, redraw, redraw_in}
+use Rattle.vt_redraw.specs.declared.form.Form.{Form}
+use Rattle.vt_redraw.specs.declared.form.Form.TheVariants.{Fixed}
 use Rattle.vt_redraw.proofs.Clear.{cleared}
 use Rattle.vt_redraw.proofs.Difference.{Shows, script_draws}
 use Rattle.vt_redraw.proofs.EmptyDifference.{showing, showing_plain, same_picture, draws_tell}
@@ -53,11 +55,11 @@ clear_canvas self any = record any {
   hidden = self.hidden;
 }
 
-pub redraw_draws : (self : Picture) (any : Canvas) → IsPicture self → IsSteady self →
+pub redraw_draws_in : (form : Form) (self : Picture) (any : Canvas) → IsPicture self → IsSteady self →
     IsPicture (picture_of any) → IsPlainPage any.page → SamePictureSize self (picture_of any) →
-    Shows (redraw self) any (with_picture self any)
-unfolding redraw
-redraw_draws self any is steady other plain size =
+    Shows (redraw_in form self) any (with_picture self any)
+unfolding redraw_in
+redraw_draws_in form self any is steady other plain size =
     let base = clear_canvas self any in
     let height = length self.rows in
     let same = size.width in
@@ -67,18 +69,23 @@ redraw_draws self any is steady other plain size =
     let l = length-replicate height (blank_row default_attrs self.width) in
     let shows : picture_of base ≡ blank_like self = ap (λ (w : ℕ). record (blank_like self) { width = w }) (sym same) in
     let blank : IsPicture (picture_of base) = subst IsPicture (sym shows) (blank_is self is) in
-    let rest = script_draws self base is steady blank
+    let rest = script_draws form self base is steady blank
     (record { whole = (plain.whole.0, omega arith); origin = plain.origin })
     (record { width = same; height = sym l }) in
     let goal = with_saved rest.0 (with_picture self any) in
     let clear = cleared any.page height self.width other.has_columns
     (omega arith) other.rows plain.origin (sym same) (sym tall) in (
       rest.0,
-      ap (λ (page : Page). drawn_all (script self (blank_like self))
+      ap (λ (page : Page). drawn_all (script_in form self (blank_like self))
           (record any { page = page; attrs = default_attrs; hidden = self.hidden }))
           clear
-          ∙ (ap (λ (p : Picture). drawn_all (script self p) base) (sym shows) ∙ rest.1.draws),
+          ∙ (ap (λ (p : Picture). drawn_all (script_in form self p) base) (sym shows) ∙ rest.1.draws),
     )
+
+pub redraw_draws : (self : Picture) (any : Canvas) → IsPicture self → IsSteady self →
+    IsPicture (picture_of any) → IsPlainPage any.page → SamePictureSize self (picture_of any) →
+    Shows (redraw self) any (with_picture self any)
+redraw_draws = redraw_draws_in Fixed
 
 -- Two steady pictures of the same size are equal if their redraws are equal.
 pub redraws_only : (a b : Picture) → IsPicture a → IsSteady a → IsPicture b →

@@ -14,7 +14,7 @@ use Rattle.vt_rows.specs.Row.{RowValue}
 use Rattle.vt_redraw.specs.Items.{is_whole, item_of_difference, range_written}
 use Rattle.vt_redraw.specs.Internals.{AppendsOrStops, GathersOrStops, Leads, Links, Writes, cells_from, mark_of}
 use Rattle.vt_redraw.specs.Redraw.{row_written, under_last}
-use Rattle.vt_redraw.specs.Script.{Linked, Scripted, after_last_glyph, attr_ops, cells_written, row_break}
+use Rattle.vt_redraw.specs.Script.{Linked, Scripted, after_last_glyph, cells_written, row_break, attr_ops_in}
 use Rattle.vt_redraw.specs.declared.links.Link.{Link}
 use Rattle.vt_redraw.specs.declared.pen.Pen.{Pen}
 use Rattle.vt_redraw.proofs.ItemSteps.{part_item, whole_item}
@@ -170,15 +170,15 @@ range_some r start stop x y w e some = by_case (is_whole start stop (length x.ce
 
 pub under_last_text : (pen last : Pen) (i r : ℕ) (cells : List CellValue) (t0 t1 t2 t3 : List ℕ) →
     t1 ≡ t0 ++ bytes_of_all (after_last_glyph i pen cells).ops → last ≡ (after_last_glyph i pen cells).pen →
-    t2 ≡ t1 ++ bytes_of_all (attr_ops last.attrs pen.attrs) →
+    t2 ≡ t1 ++ bytes_of_all (attr_ops_in pen.form last.attrs pen.attrs) →
     t3 ≡ t2 ++ bytes_of_all (replicate (r - i) LineFeed) → t3 ≡ t0 ++ bytes_of_all (under_last pen i r cells)
 unfolding under_last
 under_last_text pen last i r cells t0 t1 t2 t3 e p f g =
     let went = after_last_glyph i pen cells in
     let feeds = replicate (r - i) LineFeed in
-    let change = attr_ops went.pen.attrs pen.attrs in
+    let change = attr_ops_in pen.form went.pen.attrs pen.attrs in
     g ∙ (ap (λ (xs : List ℕ). xs ++ bytes_of_all feeds)
-    (f ∙ (ap (λ (q : Pen). t1 ++ bytes_of_all (attr_ops q.attrs pen.attrs)) p
+    (f ∙ (ap (λ (q : Pen). t1 ++ bytes_of_all (attr_ops_in pen.form q.attrs pen.attrs)) p
     ∙ ap (λ (xs : List ℕ). xs ++ bytes_of_all change) e))
     ∙ (append_assoc (t0 ++ bytes_of_all went.ops) (bytes_of_all change) (bytes_of_all feeds)
     ∙ (ap (λ (xs : List ℕ). (t0 ++ bytes_of_all went.ops) ++ xs) (sym (flat_map-append bytes_of change feeds))
@@ -186,18 +186,18 @@ under_last_text pen last i r cells t0 t1 t2 t3 e p f g =
     ∙ ap (λ (xs : List ℕ). t0 ++ xs) (sym (flat_map-append bytes_of went.ops (change ++ feeds)))))))
 
 pub under_last_some : (pen last : Pen) (i r : ℕ) (cells : List CellValue) → last ≡ (after_last_glyph i pen cells).pen →
-    0 < length (bytes_of_all (attr_ops last.attrs pen.attrs)) → 0 < length (bytes_of_all (under_last pen i r cells))
+    0 < length (bytes_of_all (attr_ops_in pen.form last.attrs pen.attrs)) → 0 < length (bytes_of_all (under_last pen i r cells))
 unfolding under_last
 under_last_some pen last i r cells p some =
     let went = after_last_glyph i pen cells in
-    ops_after went.ops (attr_ops went.pen.attrs pen.attrs ++ replicate (r - i) LineFeed)
-    (ops_first (attr_ops went.pen.attrs pen.attrs) (replicate (r - i) LineFeed)
-    (subst (λ (q : Pen). 0 < length (bytes_of_all (attr_ops q.attrs pen.attrs))) p some))
+    ops_after went.ops (attr_ops_in pen.form went.pen.attrs pen.attrs ++ replicate (r - i) LineFeed)
+    (ops_first (attr_ops_in pen.form went.pen.attrs pen.attrs) (replicate (r - i) LineFeed)
+    (subst (λ (q : Pen). 0 < length (bytes_of_all (attr_ops_in pen.form q.attrs pen.attrs))) p some))
 
 pub feeds_some : (pen : Pen) (i r : ℕ) (cells : List CellValue) →
     0 < length (bytes_of_all (replicate (r - i) LineFeed)) → 0 < length (bytes_of_all (under_last pen i r cells))
 unfolding under_last
 feeds_some pen i r cells some =
     let went = after_last_glyph i pen cells in
-    ops_after went.ops (attr_ops went.pen.attrs pen.attrs ++ replicate (r - i) LineFeed)
-    (ops_after (attr_ops went.pen.attrs pen.attrs) (replicate (r - i) LineFeed) some)
+    ops_after went.ops (attr_ops_in pen.form went.pen.attrs pen.attrs ++ replicate (r - i) LineFeed)
+    (ops_after (attr_ops_in pen.form went.pen.attrs pen.attrs) (replicate (r - i) LineFeed) some)

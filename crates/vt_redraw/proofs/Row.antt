@@ -12,7 +12,7 @@ use Rattle.vt_rows.specs.Cells.{blanks, cells_after_cut}
 use Rattle.vt_rows.specs.Row.{RowValue}
 use Rattle.vt_grid.specs.Canvas.{Canvas}
 use Rattle.vt_cells.specs.Glyph.{glyph_columns}
-use Rattle.vt_redraw.specs.Script.{pen_at, blank_run, erase_run, is_blank_of}
+use Rattle.vt_redraw.specs.Script.{blank_run, erase_run, is_blank_of, pen_in}
 use Rattle.vt_redraw.specs.declared.pen.Pen.{Pen}
 use Rattle.vt_redraw.proofs.Steps.{Within}
 use Rattle.vt_redraw.proofs.Runs.{run_bound, run_blanks, blank_of_is}
@@ -27,6 +27,7 @@ use Rattle.vt_redraw.proofs.TouchedTexts.{print_in}
 use Rattle.vt_redraw.proofs.Lets.{Lets, lets_next, lets_drop, torn_may, run_may, narrow_may, wide_may}
 use Rattle.vt_redraw.proofs.Places.{PrintsCells, Place, next_place, shown, Ready, ready_next, Wrote}
 use Rattle.vt_redraw.proofs.Places.{wrote_after, shifted, doing_draws, run_in, run_flagged}
+use Rattle.vt_redraw.specs.declared.form.Form.{Form}
 
 run_paired : (a : Attrs) (xs : List CellValue) → Paired xs → Paired (drop (blank_run a xs) xs)
 run_paired a [] h = tt
@@ -46,9 +47,10 @@ after_wide text a (blank b) ys h = absurd h
 after_wide text a (glyph other wide b) ys h = absurd h
 
 -- A pen in the row, at most directly after its last column, is within the page.
-pen_within : (base : Canvas) (done below : List RowValue) (pre : List CellValue) (r c height left col : ℕ) (a : Attrs) →
-    Place base done below pre r c height left → col ≤ c + left → Within (pen_at r col a) height base.page.width
-pen_within base done below pre r c height left col a at h =
+pen_within : (base : Canvas) (done below : List RowValue) (pre : List CellValue) (r c height left col : ℕ)
+    (form : Form) (a : Attrs) →
+    Place base done below pre r c height left → col ≤ c + left → Within (pen_in form r col a) height base.page.width
+pen_within base done below pre r c height left col form a at h =
     let rows = at.rows in
     let columns = at.columns in
     record { row = omega arith; col = omega arith }
@@ -148,7 +150,7 @@ cells_draw May base done below (blank a ∷ xs) (y ∷ ys) pre o r c zero pen fl
     let next = next_place base done below pre (blank a) r c height (length ys) at in
     cond_both (same_cell (blank a) y) (cells_written r (c + 1) pen flag 0 xs ys)
     (ops_then (placed_op pen r c a (erase_run (suc n) (drop n ys)))
-    (cells_written r (c + 1) (pen_at r c a) (wrapped_after_erasure flag (drop n ys)) n xs ys))
+    (cells_written r (c + 1) (pen_in pen.form r c a) (wrapped_after_erasure flag (drop n ys)) n xs ys))
     (λ (w : Scripted). Wrote May w base done below
     (mid base done below (pre ++ cells_after_cut o (y ∷ ys)) flag pen) goal height)
     (λ (t : same_cell (blank a) y ≡ true).
@@ -166,7 +168,7 @@ cells_draw May base done below (blank a ∷ xs) (y ∷ ys) pre o r c zero pen fl
     prints.1 within more))
     sound))
     (λ _.
-    let q = pen_at r c a in
+    let q = pen_in pen.form r c a in
     let now = wrapped_after_erasure flag (drop n ys) in
     let taken : blanks a n ≡ take n xs = sym (run_blanks a xs) in
     let row = λ (z : List CellValue). pre ++ blank a ∷ (z ++ cells_after_cut default_blank (drop n ys)) in
@@ -192,7 +194,7 @@ cells_draw May base done below (blank a ∷ xs) (y ∷ ys) pre o r c zero pen fl
     (ready_next (blank a) xs ys pre default_blank n now (omega arith) h.tail le
     (paired_append pre (blank a ∷ take n xs) front (subst Paired taken (paired_blanks n a)))
     (run_paired a xs h.new) (loose_drop n ys (loose_step y ys h.old)) sound) prints.1
-    (pen_within base done below pre r c height (suc (length ys)) c a at (omega arith)) more)))
+    (pen_within base done below pre r c height (suc (length ys)) c pen.form a at (omega arith)) more)))
 cells_draw May base done below (glyph text false a ∷ xs) (y ∷ ys)
     pre o r c zero pen flag height at h prints within lets =
     let front : Paired pre = subst Paired (append-nil pre) h.behind in
@@ -202,7 +204,7 @@ cells_draw May base done below (glyph text false a ∷ xs) (y ∷ ys)
     let here = at.columns in
     let now = wrapped_after_glyph flag false (drop 1 ys) in
     let more = lets.1 in
-    let q = pen_at r (c + 1) a in
+    let q = pen_in pen.form r (c + 1) a in
     let next = next_place base done below pre x r c height (length ys) at in
     cond_both (same_cell x y) (cells_written r (c + 1) pen flag 0 xs ys)
     (ops_then (placed_op pen r c a (Print text)) (cells_written r (c + 1) q now 0 xs ys))
@@ -238,7 +240,7 @@ cells_draw May base done below (glyph text false a ∷ xs) (y ∷ ys)
     (ready_next x xs ys pre (orphan false a) 0 now (omega arith) h.tail
     (omega arith) (paired_append pre (x ∷ []) front tt) h.new (loose_step y ys h.old)
     (sound_kept flag (with_glyph pre text false a ys) now (glyph_flag pre o y ys flag text false a h.sound))) prints.1
-    (pen_within base done below pre r c height (suc (length ys)) (c + 1) a at (omega arith)) more)))
+    (pen_within base done below pre r c height (suc (length ys)) (c + 1) pen.form a at (omega arith)) more)))
 cells_draw May base done below (glyph text true a ∷ []) (y ∷ ys)
     pre o r c zero pen flag height at h prints within lets = absurd h.new
 cells_draw May base done below (glyph text true a ∷ blank b ∷ xs)
@@ -257,7 +259,7 @@ cells_draw May base done below (glyph text true a ∷ right_half ∷ xs)
     let here = at.columns in
     let now = wrapped_after_glyph flag true ys in
     let more = lets.1 in
-    let q = pen_at r (c + 2) a in
+    let q = pen_in pen.form r (c + 2) a in
     let next = next_place base done below pre x r c height (suc (length ys)) at in
     let w1 = cells_written r (c + 1) pen flag 1 xr (y2 ∷ ys) in
     let w2 = cells_written r (c + 1) q now 1 xr (y2 ∷ ys) in
@@ -296,4 +298,4 @@ cells_draw May base done below (glyph text true a ∷ right_half ∷ xs)
     (sound_kept flag (with_glyph pre text true a (y2 ∷ ys)) now
     (glyph_flag pre o y (y2 ∷ ys) flag text true a h.sound)))
     prints.1
-    (pen_within base done below pre r c height (suc (suc (length ys))) (c + 2) a at (omega arith)) more)))
+    (pen_within base done below pre r c height (suc (suc (length ys))) (c + 2) pen.form a at (omega arith)) more)))

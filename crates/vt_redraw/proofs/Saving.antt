@@ -5,21 +5,24 @@ use Rattle.std.specs.Prelude.{if◌then◌else◌}
 use Rattle.std.proofs.lemmas.Bool.{cond_both}
 use Rattle.vt_cells.specs.Attrs.{default_attrs, same_attrs, same_bool, Attrs}
 use Rattle.vt_cells.specs.Cell.{CellValue, blank, glyph, right_half, attrs_of, text_of, same_cell}
-use Rattle.vt_cells.specs.Op.{Op, Hide, MoveTo, MoveRight, NextRow, LineFeed, Backspace, EraseChars}
+use Rattle.vt_cells.specs.Op.{Op, Hide, MoveTo, MoveRight, NextRow, LineFeed, Backspace, EraseChars, ClearAttrs}
 use Rattle.vt_cells.specs.Op.{SaveCursor, RestoreCursor, ChangeAttrs, Print}
 use Rattle.vt_cells.specs.Glyph.{glyph_columns}
 use Rattle.vt_rows.specs.Cells.{at}
 use Rattle.vt_rows.specs.Row.{RowValue}
 use Rattle.vt_grid.specs.Page.{row_or}
+use Rattle.vt_redraw.specs.declared.form.Form.{Form}
+use Rattle.vt_redraw.specs.declared.form.Form.TheVariants.{Fixed}
 use Rattle.vt_redraw.specs.declared.pen.Pen.{Pen}
 use Rattle.vt_redraw.specs.Picture.{Picture}
-use Rattle.vt_redraw.specs.Script.{pen_at, move_ops, attr_ops, blank_run, erase_run, no_ops, ops_then, placed_op}
-use Rattle.vt_redraw.specs.Script.{after_last_glyph, cells_written, is_at, last_column, last_glyph, pen_after}
-use Rattle.vt_redraw.specs.Script.{Scripted, no_link, first_written, starts_other, ops_then_link, row_link}
-use Rattle.vt_redraw.specs.Script.{break_ops, row_break, wrapped_after_erasure, wrapped_after_glyph}
+use Rattle.vt_redraw.specs.Script.{move_ops, attr_ops, blank_run, erase_run, no_ops, ops_then, placed_op}
+use Rattle.vt_redraw.specs.Script.{after_last_glyph, cells_written, is_at, last_column, last_glyph, pen_after, resets}
+use Rattle.vt_redraw.specs.Script.{Scripted, no_link, first_written, starts_other, ops_then_link, row_link, attr_ops_in}
+use Rattle.vt_redraw.specs.Script.{break_ops, row_break, wrapped_after_erasure, wrapped_after_glyph, pen_in}
 use Rattle.vt_redraw.specs.Redraw.{row_written, link_of, rows_below, rows_written, nearest, over_blank, under_last}
-use Rattle.vt_redraw.specs.Redraw.{blank_passed, pending_at, cursor_written, pen_of, script, cursor_visibility_ops, difference}
-use Rattle.vt_redraw.specs.Redraw.{blank_like, redraw, pending_alone, cursor_state}
+use Rattle.vt_redraw.specs.Redraw.{blank_passed, pending_at, cursor_written, pen_of, cursor_visibility_ops, difference}
+use Rattle.vt_redraw.specs.Redraw.{blank_like, redraw, pending_alone, cursor_state, script_in, difference_in, redraw_in}
+use Rattle.vt_redraw.specs.Script.{change_ops}
 
 -- Whether the cursor has been saved after an operation, given whether it was saved before.
 abbrev pub saved_after : Bool → Op → Bool
@@ -53,10 +56,12 @@ going_safe pen r c =
     (λ _. cond_both ((r == pen.row) && (c == pen.col)) [] (MoveTo r c ∷ []) IsSafe (λ _. λ s. tt)
     (λ _. λ s. (tt, tt))))
 
-pub changing_safe : (was new : Attrs) → IsSafe (attr_ops was new)
-unfolding attr_ops
-changing_safe was new =
-    cond_both (same_attrs was new) [] (ChangeAttrs was new ∷ []) IsSafe (λ _. λ s. tt) (λ _. λ s. (tt, tt))
+pub changing_safe : (form : Form) (was new : Attrs) → IsSafe (attr_ops_in form was new)
+unfolding attr_ops_in
+changing_safe form was new =
+    cond_both (same_attrs was new) [] (change_ops form was new) IsSafe (λ _. λ s. tt)
+    (λ _. cond_both (resets form was new) (ClearAttrs ∷ ChangeAttrs default_attrs new ∷ [])
+    (ChangeAttrs was new ∷ []) IsSafe (λ _. λ s. (tt, (tt, tt))) (λ _. λ s. (tt, tt)))
 
 erase_run_safe : (n : ℕ) (xs : List CellValue) → IsSafe (erase_run n xs ∷ [])
 erase_run_safe n [] s = (tt, tt)
@@ -64,8 +69,8 @@ erase_run_safe n (x ∷ xs) s = (tt, tt)
 
 doing_safe : (pen : Pen) (r c : ℕ) (attrs : Attrs) (op : Op) → IsSafe (op ∷ []) → IsSafe (placed_op pen r c attrs op)
 doing_safe pen r c attrs op h =
-    safe_append (move_ops pen r c) (attr_ops pen.attrs attrs ++ op ∷ []) (going_safe pen r c)
-    (safe_append (attr_ops pen.attrs attrs) (op ∷ []) (changing_safe pen.attrs attrs) h)
+    safe_append (move_ops pen r c) (attr_ops_in pen.form pen.attrs attrs ++ op ∷ []) (going_safe pen r c)
+    (safe_append (attr_ops_in pen.form pen.attrs attrs) (op ∷ []) (changing_safe pen.form pen.attrs attrs) h)
 
 feeds_safe : (n : ℕ) → IsSafe (replicate n LineFeed)
 feeds_safe zero s = tt
@@ -86,15 +91,15 @@ cells_safe r c pen flag zero (right_half ∷ xs) (y ∷ ys) = cells_safe r (c + 
 cells_safe r c pen flag zero (blank a ∷ xs) (y ∷ ys) =
     let n = blank_run a xs in
     let op = erase_run (suc n) (drop n ys) in
-    let rest = cells_written r (c + 1) (pen_at r c a) (wrapped_after_erasure flag (drop n ys)) n xs ys in
+    let rest = cells_written r (c + 1) (pen_in pen.form r c a) (wrapped_after_erasure flag (drop n ys)) n xs ys in
     cond_both (same_cell (blank a) y) (cells_written r (c + 1) pen flag zero xs ys)
     (ops_then (placed_op pen r c a op) rest) SafeWritten
     (λ _. cells_safe r (c + 1) pen flag zero xs ys)
     (λ _. safe_append (placed_op pen r c a op) rest.ops (doing_safe pen r c a op (erase_run_safe (suc n) (drop n ys)))
-    (cells_safe r (c + 1) (pen_at r c a) (wrapped_after_erasure flag (drop n ys)) n xs ys))
+    (cells_safe r (c + 1) (pen_in pen.form r c a) (wrapped_after_erasure flag (drop n ys)) n xs ys))
 cells_safe r c pen flag zero (glyph text wide a ∷ xs) (y ∷ ys) =
     let k = glyph_columns wide - 1 in
-    let next = pen_at r (c + glyph_columns wide) a in
+    let next = pen_in pen.form r (c + glyph_columns wide) a in
     let now = wrapped_after_glyph flag wide (drop 1 ys) in
     let rest = cells_written r (c + 1) next now k xs ys in
     cond_both (same_cell (glyph text wide a) y) (cells_written r (c + 1) pen flag k xs ys)
@@ -107,7 +112,7 @@ after_safe : (r : ℕ) (pen : Pen) (cells : List CellValue) → SafeWritten (aft
 after_safe r pen cells =
     let again : Scripted = record {
       ops = placed_op pen r (last_column cells) (attrs_of (last_glyph cells)) (Print (text_of (last_glyph cells)));
-      pen = pen_after r cells;
+      pen = pen_after pen.form r cells;
       flag = true;
     } in
     cond_both (is_at pen r (length cells)) (no_ops pen true) again SafeWritten (λ _. λ s. tt)
@@ -119,10 +124,10 @@ first_safe r pen flag [] ys = λ s. tt
 first_safe r pen flag (x ∷ xs) [] = λ s. tt
 first_safe r pen flag (right_half ∷ xs) (y ∷ ys) = λ s. tt
 first_safe r pen flag (blank a ∷ xs) (y ∷ ys) =
-    safe_append (attr_ops pen.attrs a) (Print (0x20 ∷ []) ∷ Backspace ∷ EraseChars 1 ∷ []) (changing_safe pen.attrs a)
+    safe_append (attr_ops_in pen.form pen.attrs a) (Print (0x20 ∷ []) ∷ Backspace ∷ EraseChars 1 ∷ []) (changing_safe pen.form pen.attrs a)
     (λ s. (tt, (tt, (tt, tt))))
 first_safe r pen flag (glyph text wide a ∷ xs) (y ∷ ys) =
-    safe_append (attr_ops pen.attrs a) (Print text ∷ []) (changing_safe pen.attrs a) (λ s. (tt, tt))
+    safe_append (attr_ops_in pen.form pen.attrs a) (Print text ∷ []) (changing_safe pen.form pen.attrs a) (λ s. (tt, tt))
 
 linked_safe : (r : ℕ) (pen : Pen) (above : List CellValue) (on flag : Bool) (xs ys : List CellValue) →
     IsSafe (row_link r pen above on flag xs ys).ops
@@ -141,11 +146,11 @@ unfolding row_break
 broken_safe r pen flag wanted cells =
     let a = attrs_of (last_glyph cells) in
     let text = text_of (last_glyph cells) in
-    let again : List Op = attr_ops pen.attrs a ++ Print text ∷ [] in
+    let again : List Op = attr_ops_in pen.form pen.attrs a ++ Print text ∷ [] in
     cond_both (flag && not wanted) (break_ops r pen cells) (no_ops pen flag) SafeWritten
     (λ _. safe_append (move_ops pen r (last_column cells)) (EraseChars 1 ∷ again)
     (going_safe pen r (last_column cells))
-    (λ s. (tt, safe_append (attr_ops pen.attrs a) (Print text ∷ []) (changing_safe pen.attrs a) (λ t. (tt, tt)) s)))
+    (λ s. (tt, safe_append (attr_ops_in pen.form pen.attrs a) (Print text ∷ []) (changing_safe pen.form pen.attrs a) (λ t. (tt, tt)) s)))
     (λ _. λ s. tt)
 
 row_safe : (r k : ℕ) (pen : Pen) (flag : Bool) (x : RowValue) (ys : List CellValue) →
@@ -182,12 +187,12 @@ rows_safe pen (x ∷ xs) (y ∷ ys) =
 
 -- ---- the cursor
 
-passed_safe : (was attrs : Attrs) → IsSafe (blank_passed was attrs)
-passed_safe was attrs s = (
+passed_safe : (form : Form) (was attrs : Attrs) → IsSafe (blank_passed form was attrs)
+passed_safe form was attrs s = (
   tt,
-  safe_append (attr_ops was attrs)
-      (SaveCursor ∷ Backspace ∷ EraseChars 1 ∷ RestoreCursor ∷ attr_ops attrs was) (changing_safe was attrs)
-      (λ t. (tt, (tt, (tt, (refl, changing_safe attrs was true))))) s,
+  safe_append (attr_ops_in form was attrs)
+      (SaveCursor ∷ Backspace ∷ EraseChars 1 ∷ RestoreCursor ∷ attr_ops_in form attrs was) (changing_safe form was attrs)
+      (λ t. (tt, (tt, (tt, (refl, changing_safe form attrs was true))))) s,
 )
 
 pending_safe : (found : Option ℕ) (pen : Pen) (width : ℕ) (rows : List RowValue) (r : ℕ) →
@@ -195,13 +200,13 @@ pending_safe : (found : Option ℕ) (pen : Pen) (width : ℕ) (rows : List RowVa
 unfolding over_blank under_last
 pending_safe None pen width rows r =
     let b = attrs_of (at (row_or width rows r).cells (width - 1)) in
-    safe_append (move_ops pen r (width - 1)) (blank_passed pen.attrs b) (going_safe pen r (width - 1))
-    (passed_safe pen.attrs b)
+    safe_append (move_ops pen r (width - 1)) (blank_passed pen.form pen.attrs b) (going_safe pen r (width - 1))
+    (passed_safe pen.form pen.attrs b)
 pending_safe (Some i) pen width rows r =
     let w = after_last_glyph i pen (row_or width rows i).cells in
-    safe_append w.ops (attr_ops w.pen.attrs pen.attrs ++ replicate (r - i) LineFeed)
+    safe_append w.ops (attr_ops_in pen.form w.pen.attrs pen.attrs ++ replicate (r - i) LineFeed)
     (after_safe i pen (row_or width rows i).cells)
-    (safe_append (attr_ops w.pen.attrs pen.attrs) (replicate (r - i) LineFeed) (changing_safe w.pen.attrs pen.attrs)
+    (safe_append (attr_ops_in pen.form w.pen.attrs pen.attrs) (replicate (r - i) LineFeed) (changing_safe pen.form w.pen.attrs pen.attrs)
     (feeds_safe (r - i)))
 
 cursor_safe : (pen : Pen) (width : ℕ) (rows : List RowValue) (r c : ℕ) → IsSafe (cursor_written pen width rows r c)
@@ -215,39 +220,45 @@ cursor_safe pen width rows r c =
 
 -- ---- whole pictures
 
-script_safe : (self prev : Picture) → IsSafe (script self prev)
-unfolding script
-script_safe self prev =
-    let w = rows_written (pen_of prev) self.rows prev.rows in
+script_safe : (form : Form) (self prev : Picture) → IsSafe (script_in form self prev)
+unfolding script_in
+script_safe form self prev =
+    let w = rows_written (pen_of form prev) self.rows prev.rows in
     safe_append w.ops
-    (cursor_written w.pen self.width self.rows self.row self.column ++ attr_ops w.pen.attrs self.attrs)
-    (rows_safe (pen_of prev) self.rows prev.rows)
-    (safe_append (cursor_written w.pen self.width self.rows self.row self.column) (attr_ops w.pen.attrs self.attrs)
-    (cursor_safe w.pen self.width self.rows self.row self.column) (changing_safe w.pen.attrs self.attrs))
+    (cursor_written w.pen self.width self.rows self.row self.column ++ attr_ops_in form w.pen.attrs self.attrs)
+    (rows_safe (pen_of form prev) self.rows prev.rows)
+    (safe_append (cursor_written w.pen self.width self.rows self.row self.column) (attr_ops_in form w.pen.attrs self.attrs)
+    (cursor_safe w.pen self.width self.rows self.row self.column) (changing_safe form w.pen.attrs self.attrs))
+
+pub difference_safe_in : (form : Form) (self prev : Picture) → IsSafe (difference_in form self prev)
+unfolding difference_in
+difference_safe_in form self prev =
+    safe_append (cursor_visibility_ops self prev) (script_in form self prev)
+    (cond_both (same_bool self.hidden prev.hidden) [] (Hide self.hidden ∷ []) IsSafe (λ _. λ s. tt) (λ _. λ s. (tt, tt)))
+    (script_safe form self prev)
 
 pub difference_safe : (self prev : Picture) → IsSafe (difference self prev)
-unfolding difference
-difference_safe self prev =
-    safe_append (cursor_visibility_ops self prev) (script self prev)
-    (cond_both (same_bool self.hidden prev.hidden) [] (Hide self.hidden ∷ []) IsSafe (λ _. λ s. tt) (λ _. λ s. (tt, tt)))
-    (script_safe self prev)
+difference_safe = difference_safe_in Fixed
+
+pub redraw_safe_in : (form : Form) (self : Picture) → IsSafe (redraw_in form self)
+unfolding redraw_in
+redraw_safe_in form self s = (tt, (tt, (tt, (tt, script_safe form self (blank_like self) s))))
 
 pub redraw_safe : (self : Picture) → IsSafe (redraw self)
-unfolding redraw
-redraw_safe self s = (tt, (tt, (tt, (tt, script_safe self (blank_like self) s))))
+redraw_safe = redraw_safe_in Fixed
 
 alone_safe : (found : Option ℕ) (width : ℕ) (rows : List RowValue) (r : ℕ) → IsSafe (pending_alone found width rows r)
-alone_safe None width rows r s = (tt, passed_safe default_attrs (attrs_of (at (row_or width rows r).cells (width - 1))) s)
+alone_safe None width rows r s = (tt, passed_safe Fixed default_attrs (attrs_of (at (row_or width rows r).cells (width - 1))) s)
 alone_safe (Some i) width rows r s =
     let cells = (row_or width rows i).cells in
     let a = attrs_of (last_glyph cells) in (
       tt,
       safe_append (attr_ops default_attrs a)
           (Print (text_of (last_glyph cells)) ∷ (attr_ops a default_attrs ++ replicate (r - i) LineFeed))
-          (changing_safe default_attrs a)
+          (changing_safe Fixed default_attrs a)
           (λ t. (
             tt,
-            safe_append (attr_ops a default_attrs) (replicate (r - i) LineFeed) (changing_safe a default_attrs)
+            safe_append (attr_ops a default_attrs) (replicate (r - i) LineFeed) (changing_safe Fixed a default_attrs)
                 (feeds_safe (r - i)) t,
           )) s,
     )

@@ -3,13 +3,14 @@ use Rattle.std.proofs.Common.{◌≡◌, ℕ, zero, suc, ◌+◌, ◌-◌, ◌<�
 use Rattle.std.proofs.Common.{false, List, [], ◌∷◌, length, Option, Some, refl, sym, ap, ◌∙◌, arith}
 use Rattle.std.proofs.lemmas.Bool.{cond_both, and_parts, eqb-true, ltb-true, ne_eqb, lt-ltb}
 use Rattle.vt_cells.proofs.Same.{attrs_of-same, changed_attrs-new}
-use Rattle.vt_cells.specs.Attrs.{same_attrs, Attrs}
-use Rattle.vt_cells.specs.Op.{Op, MoveTo, MoveRight, NextRow, ChangeAttrs}
+use Rattle.vt_cells.specs.Attrs.{default_attrs, same_attrs, Attrs}
+use Rattle.vt_cells.specs.Op.{Op, MoveTo, MoveRight, NextRow, ChangeAttrs, ClearAttrs}
 use Rattle.vt_rows.specs.Row.{RowValue}
 use Rattle.vt_grid.specs.Moves.{line_feed, moved}
 use Rattle.vt_grid.specs.declared.grid.moves.CursorMove.TheVariants.{Right}
 use Rattle.vt_grid.specs.Canvas.{Canvas, and_then, canvas_after_op, drawn_all}
-use Rattle.vt_redraw.specs.Script.{pen_at, move_ops, attr_ops}
+use Rattle.vt_redraw.specs.Script.{pen_at, move_ops, attr_ops_in, change_ops, resets}
+use Rattle.vt_redraw.specs.declared.form.Form.{Form}
 use Rattle.vt_redraw.specs.declared.pen.Pen.{Pen}
 use Rattle.vt_grid.proofs.Drawing.{Draws}
 
@@ -98,18 +99,21 @@ going_draws base rows pen r c height width reads size within h l =
     (λ _. cond_both ((r == pen.row) && (c == pen.col)) [] (MoveTo r c ∷ []) P
     (λ (t : ((r == pen.row) && (c == pen.col)) ≡ true).
     let p = and_parts (r == pen.row) (c == pen.col) t in
-    arrives [] (at_pen base rows pen) base rows pen (pen_at r c pen.attrs) refl
+    arrives [] (at_pen base rows pen) base rows (pen_at pen.row pen.col pen.attrs) (pen_at r c pen.attrs) refl
     (pens pen.row r pen.col c pen.attrs (sym (eqb-true r pen.row p.0)) (sym (eqb-true c pen.col p.1))))
     (λ _. move_to_draws base rows pen r c reads.origin (omega arith) (omega arith))))
 
 -- ---- attributes
 
-pub changing_draws : (base : Canvas) (rows : List RowValue) (pen : Pen) (attrs : Attrs) →
-    Draws (attr_ops pen.attrs attrs) (at_pen base rows pen) (at_pen base rows (pen_at pen.row pen.col attrs))
-unfolding attr_ops
-changing_draws base rows pen attrs =
+pub changing_draws : (form : Form) (base : Canvas) (rows : List RowValue) (pen : Pen) (attrs : Attrs) →
+    Draws (attr_ops_in form pen.attrs attrs) (at_pen base rows pen) (at_pen base rows (pen_at pen.row pen.col attrs))
+unfolding attr_ops_in
+changing_draws form base rows pen attrs =
     let P = λ (ops : List Op). Draws ops (at_pen base rows pen) (at_pen base rows (pen_at pen.row pen.col attrs)) in
-    cond_both (same_attrs pen.attrs attrs) [] (ChangeAttrs pen.attrs attrs ∷ []) P
+    cond_both (same_attrs pen.attrs attrs) [] (change_ops form pen.attrs attrs) P
     (λ (t : same_attrs pen.attrs attrs ≡ true). ap
     (λ (a : Attrs). Some (at_pen base rows (pen_at pen.row pen.col a))) (attrs_of-same pen.attrs attrs t))
-    (λ _. ap (λ (a : Attrs). Some (at_pen base rows (pen_at pen.row pen.col a))) (changed_attrs-new pen.attrs attrs))
+    (λ _. cond_both (resets form pen.attrs attrs) (ClearAttrs ∷ ChangeAttrs default_attrs attrs ∷ [])
+    (ChangeAttrs pen.attrs attrs ∷ []) P
+    (λ _. ap (λ (a : Attrs). Some (at_pen base rows (pen_at pen.row pen.col a))) (changed_attrs-new default_attrs attrs))
+    (λ _. ap (λ (a : Attrs). Some (at_pen base rows (pen_at pen.row pen.col a))) (changed_attrs-new pen.attrs attrs)))

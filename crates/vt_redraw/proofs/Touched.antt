@@ -6,14 +6,15 @@ use Rattle.std.specs.Prelude.{nat_le}
 use Rattle.std.proofs.lemmas.Bool.{cond_both}
 use Rattle.std.proofs.lemmas.Bool.Decides.{nat_tests}
 use Rattle.std.proofs.lemmas.List.{get_or-append_right}
-use Rattle.vt_cells.specs.Attrs.{same_attrs, Attrs}
+use Rattle.vt_cells.specs.Attrs.{same_attrs, Attrs, default_attrs}
 use Rattle.vt_cells.specs.Cell.{CellValue, blank, glyph, right_half, default_blank, is_wide, is_right_half}
 use Rattle.vt_cells.specs.Op.{Op, Hide, ClearAttrs, MoveTo, MoveRight, NextRow, LineFeed, Backspace, EraseBelow}
 use Rattle.vt_cells.specs.Op.{EraseRest, EraseChars, SaveCursor, RestoreCursor, ChangeAttrs, Print}
 use Rattle.vt_rows.specs.Cells.{at}
 use Rattle.vt_rows.specs.Row.{RowValue}
 use Rattle.vt_grid.specs.Canvas.{Canvas, and_then, drawn_all}
-use Rattle.vt_redraw.specs.Script.{pen_at, move_ops, attr_ops}
+use Rattle.vt_redraw.specs.Script.{pen_at, move_ops, attr_ops_in, change_ops, resets}
+use Rattle.vt_redraw.specs.declared.form.Form.{Form}
 use Rattle.vt_redraw.specs.declared.pen.Pen.{Pen}
 use Rattle.vt_grid.proofs.Drawing.{Draws, draws_then}
 use Rattle.vt_redraw.specs.Touching.{is_touched, Changes, OpTouches, Touches}
@@ -106,10 +107,12 @@ going_quiet pen r c =
     (λ _. cond_both ((r == pen.row) && nat_lt pen.col c) (MoveRight (c - pen.col) ∷ []) _ AllQuiet (λ _. (refl, tt))
     (λ _. cond_both ((r == pen.row) && (c == pen.col)) [] (MoveTo r c ∷ []) AllQuiet (λ _. tt) (λ _. (refl, tt))))
 
-pub changing_quiet : (was new : Attrs) → AllQuiet (attr_ops was new)
-unfolding attr_ops
-changing_quiet was new =
-    cond_both (same_attrs was new) [] (ChangeAttrs was new ∷ []) AllQuiet (λ _. tt) (λ _. (refl, tt))
+pub changing_quiet : (form : Form) (was new : Attrs) → AllQuiet (attr_ops_in form was new)
+unfolding attr_ops_in
+changing_quiet form was new =
+    cond_both (same_attrs was new) [] (change_ops form was new) AllQuiet (λ _. tt)
+    (λ _. cond_both (resets form was new) (ClearAttrs ∷ ChangeAttrs default_attrs new ∷ [])
+    (ChangeAttrs was new ∷ []) AllQuiet (λ _. (refl, (refl, tt))) (λ _. (refl, tt)))
 
 pub feeds_quiet : (n : ℕ) → AllQuiet (replicate n LineFeed)
 feeds_quiet zero = tt

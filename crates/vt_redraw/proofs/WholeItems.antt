@@ -33,6 +33,7 @@ use Rattle.vt_redraw.proofs.Link.{broken_draws, going_after_draws, no_tail}
 use Rattle.vt_redraw.proofs.Joining.{first_blank, first_draws, first_sound, glyph_sound}
 use Rattle.vt_redraw.proofs.Rows.{Stands}
 use Rattle.vt_redraw.proofs.RangeDraws.{Any, IsItem, range_draws, lets_any}
+use Rattle.vt_redraw.specs.declared.form.Form.TheVariants.{Fixed}
 
 -- ---- items of a difference
 
@@ -132,8 +133,8 @@ begin_draws base done below (glyph text wide a ∷ xs) (y ∷ ys) flag r height 
         let spot : Spot base done [] default_blank y ys flag r 0 wide =
         record { row = e; col = refl; fits = omega arith; front = tt; sound = subst (Sound flag) (sym whole) sound } in
         in_then Any (attr_ops b a) (Print text ∷ []) d0 d1 goal
-        (quiet_in Any (attr_ops b a) d0 d1 (changing_quiet b a)
-        (changing_draws base (done ++ row_of (y ∷ ys) flag ∷ below) (pen_at r 0 b) a))
+        (quiet_in Any (attr_ops b a) d0 d1 (changing_quiet Fixed b a)
+        (changing_draws Fixed base (done ++ row_of (y ∷ ys) flag ∷ below) (pen_at r 0 b) a))
         (subst
         (λ (z : List CellValue). DrawsIn Any (Print text ∷ []) (mid base done below z flag (pen_at r 0 a)) goal) whole
         (print_in Any base done below [] default_blank y ys flag r 0 text wide
@@ -188,8 +189,8 @@ begin_draws base done below (blank a ∷ xs) (y ∷ ys) flag r height b e rows h
     record {
       torn = orphan false a;
       draws = in_then Any (attr_ops b a) (Print (0x20 ∷ []) ∷ Backspace ∷ EraseChars 1 ∷ []) d0 d1 goal
-          (quiet_in Any (attr_ops b a) d0 d1 (changing_quiet b a)
-          (changing_draws base (done ++ row_of (y ∷ ys) flag ∷ below) (pen_at r 0 b) a))
+          (quiet_in Any (attr_ops b a) d0 d1 (changing_quiet Fixed b a)
+          (changing_draws Fixed base (done ++ row_of (y ∷ ys) flag ∷ below) (pen_at r 0 b) a))
           (in_then Any (Print (0x20 ∷ []) ∷ []) (Backspace ∷ EraseChars 1 ∷ []) d1 spaced goal
           (subst (λ (z : List CellValue). DrawsIn Any (Print (0x20 ∷ []) ∷ [])
           (mid base done below z flag (pen_at r 0 a)) spaced)
@@ -247,13 +248,13 @@ linked_item_draws base done below xs r height reads e rows hx h prints =
     reads.has_columns h (paired_blanks (length xs) default_attrs) (λ t. absurd (cc)) prints)
 
 -- The output for the first cell doesn't depend on the pen's position.
-first_alike : (r : ℕ) (pen other : Pen) (flag : Bool) (xs ys : List CellValue) → pen.attrs ≡ other.attrs →
+first_alike : (r : ℕ) (pen other : Pen) (flag : Bool) (xs ys : List CellValue) → pen.form ≡ other.form → pen.attrs ≡ other.attrs →
     0 < length xs → 0 < length ys → Paired xs → first_written r pen flag xs ys ≡ first_written r other flag xs ys
-first_alike r pen other flag [] ys e n m h = absurd (omega arith)
-first_alike r pen other flag (x ∷ xs) [] e n m h = absurd (omega arith)
-first_alike r pen other flag (right_half ∷ xs) (y ∷ ys) e n m h = absurd h
-first_alike r pen other flag (blank a ∷ xs) (y ∷ ys) e n m h = rw e refl
-first_alike r pen other flag (glyph text wide a ∷ xs) (y ∷ ys) e n m h = rw e refl
+first_alike r pen other flag [] ys f e n m h = absurd (omega arith)
+first_alike r pen other flag (x ∷ xs) [] f e n m h = absurd (omega arith)
+first_alike r pen other flag (right_half ∷ xs) (y ∷ ys) f e n m h = absurd h
+first_alike r pen other flag (blank a ∷ xs) (y ∷ ys) f e n m h = rw (f, e) refl
+first_alike r pen other flag (glyph text wide a ∷ xs) (y ∷ ys) f e n m h = rw (f, e) refl
 
 -- The item of a row below a wrapped row can be drawn with a wrap pending after a glyph at the end of the row above,
 -- which then becomes wrapped.
@@ -273,8 +274,8 @@ linked_item_wraps base done below above xs on r height reads e rows full hx h pr
     let start = two base done below above on ys false (pen_at r base.page.width default_attrs) in
     let j = first_written (r + 1) (pen_at r base.page.width default_attrs) false xs ys in
     let alike = first_alike (r + 1) (pen_at r base.page.width default_attrs)
-    (pen_at (r + 1) 0 default_attrs) false xs ys refl (omega arith) (omega arith) h in
-    let joins = first_draws Any base done below above xs ys on false r height default_attrs
+    (pen_at (r + 1) 0 default_attrs) false xs ys refl refl (omega arith) (omega arith) h in
+    let joins = first_draws Any Fixed base done below above xs ys on false r height default_attrs
     e reads.bottom rows hx hy pos full h (paired_blanks (length xs) default_attrs)
     (λ t. absurd (cc)) prints (lets_any (r + 1) 0 xs ys) tt (λ _. tt) in
     let begins : Begins j base top below start xs ys height = record {

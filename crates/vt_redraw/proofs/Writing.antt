@@ -1,16 +1,24 @@
 -- The writer's steps for a redraw.
-use Rattle.std.proofs.Common.{◌≡◌, ℕ, sym, ap, arith, eqb-true, true, false, List, [], ◌∷◌, ◌++◌, ◌∙◌, refl, append-nil, append_assoc}
+use Rattle.std.proofs.Common.{◌≡◌, ℕ, Bool, ◌&&◌, ◌||◌, sym, ap, arith, eqb-true, true, false, List, [], ◌∷◌, ◌++◌, ◌∙◌, refl}
+use Rattle.std.proofs.Common.{append-nil, append_assoc}
+use Rattle.std.specs.Prelude.{if◌then◌else◌}
 use Rattle.std.proofs.lemmas.Bool.Decides.{nat_tests}
 use Rattle.std.proofs.lemmas.Bool.{cond_both}
 use Rattle.vt_cells.proofs.Buffers.{gathered_then}
-use Rattle.vt_cells.proofs.Same.{two_parts}
+use Rattle.vt_cells.proofs.Same.{attrs_of-same, two_parts}
 use Rattle.vt_cells.proofs.Texts.{bytes_of_all-append}
 use Rattle.vt_cells.specs.BufferInternals.{buffered_text}
-use Rattle.vt_cells.specs.Attrs.{same_attrs, Attrs}
+use Rattle.vt_cells.specs.declared.attrs.Intensity.{Intensity}
+use Rattle.vt_cells.specs.declared.attrs.Intensity.TheVariants.{Normal, Bold, Dim}
+use Rattle.vt_cells.specs.Attrs.{same_intensity, same_attrs, Attrs, default_attrs}
 use Rattle.vt_cells.specs.Cell.{CellValue, blank, glyph, right_half, is_blank, attrs_of}
-use Rattle.vt_cells.specs.Op.{Op, ChangeAttrs, bytes_of, bytes_of_all, change_text, cursor_move_ops}
-use Rattle.vt_redraw.specs.Script.{attr_ops, move_ops, is_at, is_blank_of}
+use Rattle.vt_cells.specs.Op.{Op, ChangeAttrs, bytes_of, bytes_of_all, change_text, cursor_move_ops, ClearAttrs}
+use Rattle.vt_redraw.specs.Script.{attr_ops, move_ops, is_at, is_blank_of, attr_ops_in, change_ops, swaps_intensity}
 use Rattle.vt_redraw.specs.declared.pen.Pen.{Pen}
+use Rattle.vt_redraw.specs.declared.form.Form.{Form}
+use Rattle.vt_redraw.specs.Script.{resets}
+use Rattle.vt_redraw.specs.declared.form.Form.TheVariants.{Fixed}
+use Rattle.vt_redraw.specs.declared.form.Form.TheVariants.{Portable}
 
 no_change : (was new : Attrs) → same_attrs was new ≡ true → [] ≡ change_text was new
 unfolding change_text
@@ -18,7 +26,7 @@ no_change was new t = rw t refl
 
 -- The output of a change of attributes in a script is the text of that change.
 pub changing_bytes : (was new : Attrs) → bytes_of_all (attr_ops was new) ≡ change_text was new
-unfolding attr_ops
+unfolding attr_ops_in
 changing_bytes was new =
     cond_both (same_attrs was new) [] (ChangeAttrs was new ∷ [])
     (λ (ops : List Op). bytes_of_all ops ≡ change_text was new)
@@ -27,10 +35,47 @@ changing_bytes was new =
 pub change_written : (was new : Attrs) → change_text was new ≡ bytes_of_all (attr_ops was new)
 change_written was new = sym (changing_bytes was new)
 
+no_swap : (a : Attrs) → swaps_intensity a a ≡ false
+no_swap a = by_kind a.intensity where
+  by_kind : (i : Intensity) →
+      ((same_intensity i Bold && same_intensity i Dim) || (same_intensity i Dim && same_intensity i Bold)) ≡ false
+  by_kind Normal = refl
+  by_kind Bold = refl
+  by_kind Dim = refl
+
+-- Attributes are reset only if they change.
+resets_other : (form : Form) (was new : Attrs) → resets form was new ≡ true → same_attrs was new ≡ false
+resets_other Fixed was new t = absurd cc
+resets_other Portable was new t = by_test (same_attrs was new) refl where
+  by_test : (b : Bool) → same_attrs was new ≡ b → b ≡ false
+  by_test false f = refl
+  by_test true s =
+      let e = attrs_of-same was new s in
+      let no = no_swap new in
+      let yes : swaps_intensity new new ≡ true = ap (λ (a : Attrs). swaps_intensity a new) (sym e) ∙ t in
+      absurd cc
+
+pub reset_written : (form : Form) (was new : Attrs) → resets form was new ≡ true →
+    bytes_of ClearAttrs ++ change_text default_attrs new ≡ bytes_of_all (attr_ops_in form was new)
+unfolding attr_ops_in
+reset_written form was new t =
+    rw (resets_other form was new t, t)
+    (ap (λ (text : List ℕ). bytes_of ClearAttrs ++ text) (sym (append-nil (change_text default_attrs new))))
+
+pub kept_written : (form : Form) (was new : Attrs) → resets form was new ≡ false →
+    change_text was new ≡ bytes_of_all (attr_ops_in form was new)
+unfolding attr_ops_in
+kept_written form was new f = by_test (same_attrs was new) refl where
+  by_test : (b : Bool) → same_attrs was new ≡ b →
+      change_text was new ≡ bytes_of_all (if b then [] else change_ops form was new)
+  by_test true t = sym (no_change was new t)
+  by_test false n = rw f (sym (append-nil (change_text was new)))
+
 -- A change between equal attributes has no output.
-pub change_none : (was new : Attrs) → same_attrs was new ≡ true → bytes_of_all (attr_ops was new) ≡ []
-unfolding attr_ops
-change_none was new t = rw t refl
+pub change_none : (form : Form) (was new : Attrs) → same_attrs was new ≡ true →
+    bytes_of_all (attr_ops_in form was new) ≡ []
+unfolding attr_ops_in
+change_none form was new t = rw t refl
 
 here : (r c row col : ℕ) → r ≡ row → c ≡ col → cursor_move_ops r c row col ≡ []
 here r c row col e f = grind (arith, nat_tests)

@@ -8,7 +8,9 @@ use Rattle.vt_cells.specs.Op.{LineFeed, Backspace, SaveCursor, RestoreCursor, Pr
 use Rattle.vt_rows.specs.Cells.{at, ends_blank}
 use Rattle.vt_rows.specs.Row.{RowValue, blank_row}
 use Rattle.vt_grid.specs.Page.{row_or}
-use Rattle.vt_redraw.specs.Script.{pen_at, move_ops, attr_ops}
+use Rattle.vt_redraw.specs.Script.{pen_in, move_ops, attr_ops, attr_ops_in}
+use Rattle.vt_redraw.specs.declared.form.Form.{Form}
+use Rattle.vt_redraw.specs.declared.form.Form.TheVariants.{Fixed}
 use Rattle.vt_redraw.specs.declared.pen.Pen.{Pen}
 use Rattle.vt_redraw.specs.Picture.{Picture}
 use Rattle.vt_redraw.specs.Script.{Scripted, after_last_glyph, is_at, last_column, no_ops, ops_then}
@@ -55,22 +57,23 @@ nearest width rows (suc n) = if ends_blank (row_or width rows (suc n)).cells the
 
 -- The operations that make a wrap pending when the cursor is in the last column and the column holds a blank with the
 -- attributes `attrs`: a space is printed and then erased. The pen has the attributes `was` before and afterward.
-abbrev pub blank_passed : (was attrs : Attrs) → List Op
-blank_passed was attrs =
+abbrev pub blank_passed : Form → (was attrs : Attrs) → List Op
+blank_passed form was attrs =
     Print (0x20 ∷ [])
-    ∷ (attr_ops was attrs ++ (SaveCursor ∷ Backspace ∷ EraseChars 1 ∷ RestoreCursor ∷ attr_ops attrs was))
+    ∷ (attr_ops_in form was attrs
+    ++ (SaveCursor ∷ Backspace ∷ EraseChars 1 ∷ RestoreCursor ∷ attr_ops_in form attrs was))
 
 -- The operations that make a wrap pending at the end of row `r`, whose last column is a blank with the given
 -- attributes.
 unfoldable pub over_blank : Pen → (r width : ℕ) → Attrs → List Op
-over_blank pen r width attrs = move_ops pen r (width - 1) ++ blank_passed pen.attrs attrs
+over_blank pen r width attrs = move_ops pen r (width - 1) ++ blank_passed pen.form pen.attrs attrs
 
 -- The operations that make a wrap pending at the end of row `r` by printing the last glyph of row `i` and then moving
 -- down to row `r`.
 unfoldable pub under_last : Pen → (i r : ℕ) → List CellValue → List Op
 under_last pen i r cells =
     (after_last_glyph i pen cells).ops
-    ++ (attr_ops (after_last_glyph i pen cells).pen.attrs pen.attrs ++ replicate (r - i) LineFeed)
+    ++ (attr_ops_in pen.form (after_last_glyph i pen cells).pen.attrs pen.attrs ++ replicate (r - i) LineFeed)
 
 abbrev pub pending_at : Option ℕ → Pen → ℕ → List RowValue → ℕ → List Op
 pending_at None pen width rows r = over_blank pen r width (attrs_of (at (row_or width rows r).cells (width - 1)))
@@ -85,21 +88,30 @@ cursor_written pen width rows row column =
 
 -- ---- whole pictures
 
-abbrev pub pen_of : Picture → Pen
-pen_of picture = pen_at picture.row picture.column picture.attrs
+abbrev pub pen_of : Form → Picture → Pen
+pen_of form picture = pen_in form picture.row picture.column picture.attrs
 
 -- The operations that turn the picture `prev` into `self`: first its rows, then its cursor and attributes.
-unfoldable pub script : (self prev : Picture) → List Op
-script self prev =
-    let written = rows_written (pen_of prev) self.rows prev.rows in
+unfoldable pub script_in : Form → (self prev : Picture) → List Op
+script_in form self prev =
+    let written = rows_written (pen_of form prev) self.rows prev.rows in
     written.ops
-    ++ (cursor_written written.pen self.width self.rows self.row self.column ++ attr_ops written.pen.attrs self.attrs)
+    ++ (cursor_written written.pen self.width self.rows self.row self.column
+    ++ attr_ops_in form written.pen.attrs self.attrs)
+
+-- The operations of `script_in` in the fixed form.
+abbrev pub script : (self prev : Picture) → List Op
+script self prev = script_in Fixed self prev
 
 abbrev pub cursor_visibility_ops : (self prev : Picture) → List Op
 cursor_visibility_ops self prev = if same_bool self.hidden prev.hidden then [] else Hide self.hidden ∷ []
 
-unfoldable pub difference : (self prev : Picture) → List Op
-difference self prev = cursor_visibility_ops self prev ++ script self prev
+unfoldable pub difference_in : Form → (self prev : Picture) → List Op
+difference_in form self prev = cursor_visibility_ops self prev ++ script_in form self prev
+
+-- The operations of `difference_in` in the fixed form.
+abbrev pub difference : (self prev : Picture) → List Op
+difference self prev = difference_in Fixed self prev
 
 -- The blank picture of the same size as the given picture.
 abbrev pub blank_like : Picture → Picture
@@ -112,14 +124,19 @@ blank_like picture = record {
   hidden = picture.hidden;
 }
 
-unfoldable pub redraw : Picture → List Op
-redraw self = Hide self.hidden ∷ ClearAttrs ∷ MoveTo 0 0 ∷ EraseBelow ∷ script self (blank_like self)
+unfoldable pub redraw_in : Form → Picture → List Op
+redraw_in form self =
+    Hide self.hidden ∷ ClearAttrs ∷ MoveTo 0 0 ∷ EraseBelow ∷ script_in form self (blank_like self)
+
+-- The operations of `redraw_in` in the fixed form.
+abbrev pub redraw : Picture → List Op
+redraw self = redraw_in Fixed self
 
 -- ---- the cursor alone, for a terminal whose cursor position is unknown
 
 abbrev pub pending_alone : Option ℕ → ℕ → List RowValue → ℕ → List Op
 pending_alone None width rows r =
-    MoveTo r (width - 1) ∷ blank_passed default_attrs (attrs_of (at (row_or width rows r).cells (width - 1)))
+    MoveTo r (width - 1) ∷ blank_passed Fixed default_attrs (attrs_of (at (row_or width rows r).cells (width - 1)))
 pending_alone (Some i) width rows r =
     let cells = (row_or width rows i).cells in
     MoveTo i (last_column cells)

@@ -6,21 +6,46 @@ use Rattle.vt_cells.specs.Glyph.{glyph_columns}
 use Rattle.vt_cells.specs.Cell.{CellValue, blank, glyph, right_half, is_glyph}
 use Rattle.vt_cells.specs.Cell.{is_right_half, same_cell, text_of, attrs_of}
 use Rattle.std.specs.List.{prefix_len}
-use Rattle.vt_cells.specs.Attrs.{same_attrs, Attrs}
-use Rattle.vt_cells.specs.Op.{Op, Backspace, ChangeAttrs, EraseChars, EraseRest, Print, cursor_move_ops}
+use Rattle.vt_cells.specs.Attrs.{same_attrs, default_attrs, is_bold, is_dim, Attrs}
+use Rattle.vt_cells.specs.Op.{Op, Backspace, ChangeAttrs, ClearAttrs, EraseChars, EraseRest, Print, cursor_move_ops}
 use Rattle.vt_rows.specs.Cells.{at}
+use Rattle.vt_redraw.specs.declared.form.Form.{Form}
+use Rattle.vt_redraw.specs.declared.form.Form.TheVariants.{Fixed, Portable}
 use Rattle.vt_redraw.specs.declared.pen.Pen.{Pen}
 
+abbrev pub pen_in : Form → ℕ → ℕ → Attrs → Pen
+pen_in form row col attrs = record { row = row; col = col; attrs = attrs; form = form }
+
+-- A pen that writes the fixed form.
 abbrev pub pen_at : ℕ → ℕ → Attrs → Pen
-pen_at row col attrs = record { row = row; col = col; attrs = attrs }
+pen_at row col attrs = pen_in Fixed row col attrs
 
 -- The operations that move the pen to a position.
 unfoldable pub move_ops : Pen → ℕ → ℕ → List Op
 move_ops pen row col = cursor_move_ops pen.row pen.col row col
 
+-- Whether one of the two sets of attributes is bold and the other is dim.
+abbrev pub swaps_intensity : Attrs → Attrs → Bool
+swaps_intensity was new = (is_bold was && is_dim new) || (is_dim was && is_bold new)
+
+-- Whether all attributes are reset before the second set of attributes is set. On many terminals, setting bold does not
+-- clear dim, nor the reverse, so the portable form resets the attributes between the two.
+abbrev pub resets : Form → Attrs → Attrs → Bool
+resets Fixed was new = false
+resets Portable was new = swaps_intensity was new
+
+-- The operations that change the pen's attributes from the first set to the second, which differs from the first.
+abbrev pub change_ops : Form → Attrs → Attrs → List Op
+change_ops form was new =
+    if resets form was new then ClearAttrs ∷ ChangeAttrs default_attrs new ∷ [] else ChangeAttrs was new ∷ []
+
 -- The operations that change the pen's attributes from the first set to the second; none if the two sets are equal.
-unfoldable pub attr_ops : Attrs → Attrs → List Op
-attr_ops was new = if same_attrs was new then [] else ChangeAttrs was new ∷ []
+unfoldable pub attr_ops_in : Form → Attrs → Attrs → List Op
+attr_ops_in form was new = if same_attrs was new then [] else change_ops form was new
+
+-- The operations of `attr_ops_in` in the fixed form.
+abbrev pub attr_ops : Attrs → Attrs → List Op
+attr_ops was new = attr_ops_in Fixed was new
 
 -- Whether a cell is a blank with the given attributes.
 abbrev pub is_blank_of : Attrs → CellValue → Bool
@@ -53,7 +78,7 @@ ops_then ops written = record { ops = ops ++ written.ops; pen = written.pen; fla
 
 -- The operations that perform the given operation at a position with the given attributes.
 abbrev pub placed_op : Pen → ℕ → ℕ → Attrs → Op → List Op
-placed_op pen row col attrs op = move_ops pen row col ++ (attr_ops pen.attrs attrs ++ op ∷ [])
+placed_op pen row col attrs op = move_ops pen row col ++ (attr_ops_in pen.form pen.attrs attrs ++ op ∷ [])
 
 -- ---- whether the terminal's row is wrapped, given its remaining cells
 
@@ -89,11 +114,11 @@ cells_written r c pen flag zero (right_half ∷ xs) (y ∷ ys) = cells_written r
 cells_written r c pen flag zero (blank a ∷ xs) (y ∷ ys) =
     if same_cell (blank a) y then cells_written r (c + 1) pen flag zero xs ys
     else ops_then (placed_op pen r c a (erase_run (suc (blank_run a xs)) (drop (blank_run a xs) ys)))
-    (cells_written r (c + 1) (pen_at r c a) (wrapped_after_erasure flag (drop (blank_run a xs) ys)) (blank_run a xs) xs ys)
+    (cells_written r (c + 1) (pen_in pen.form r c a) (wrapped_after_erasure flag (drop (blank_run a xs) ys)) (blank_run a xs) xs ys)
 cells_written r c pen flag zero (glyph text wide a ∷ xs) (y ∷ ys) =
     if same_cell (glyph text wide a) y then cells_written r (c + 1) pen flag (glyph_columns wide - 1) xs ys
     else ops_then (placed_op pen r c a (Print text))
-    (cells_written r (c + 1) (pen_at r (c + glyph_columns wide) a)
+    (cells_written r (c + 1) (pen_in pen.form r (c + glyph_columns wide) a)
     (wrapped_after_glyph flag wide (drop 1 ys)) (glyph_columns wide - 1) xs ys)
 
 -- ---- the last glyph of a row whose last column is not blank
@@ -108,8 +133,8 @@ abbrev pub is_at : Pen → ℕ → ℕ → Bool
 is_at pen row col = (pen.row == row) && (pen.col == col)
 
 -- The pen after the last glyph of the given row has been printed.
-abbrev pub pen_after : ℕ → List CellValue → Pen
-pen_after r cells = pen_at r (length cells) (attrs_of (last_glyph cells))
+abbrev pub pen_after : Form → ℕ → List CellValue → Pen
+pen_after form r cells = pen_in form r (length cells) (attrs_of (last_glyph cells))
 
 -- The operations that print the last glyph of the given row again, unless the pen is already after it.
 abbrev pub after_last_glyph : ℕ → Pen → List CellValue → Scripted
@@ -117,7 +142,7 @@ after_last_glyph r pen cells =
     if is_at pen r (length cells) then no_ops pen true
     else record {
       ops = placed_op pen r (last_column cells) (attrs_of (last_glyph cells)) (Print (text_of (last_glyph cells)));
-      pen = pen_after r cells;
+      pen = pen_after pen.form r cells;
       flag = true;
     }
 
@@ -141,14 +166,14 @@ first_written r pen flag [] ys = no_link pen flag
 first_written r pen flag (x ∷ xs) [] = no_link pen flag
 first_written r pen flag (right_half ∷ xs) (y ∷ ys) = no_link pen flag
 first_written r pen flag (blank a ∷ xs) (y ∷ ys) = record {
-  ops = attr_ops pen.attrs a ++ Print (0x20 ∷ []) ∷ Backspace ∷ EraseChars 1 ∷ [];
-  pen = pen_at r 0 a;
+  ops = attr_ops_in pen.form pen.attrs a ++ Print (0x20 ∷ []) ∷ Backspace ∷ EraseChars 1 ∷ [];
+  pen = pen_in pen.form r 0 a;
   flag = flag && not (is_nil ys);
   settled = 1;
 }
 first_written r pen flag (glyph text wide a ∷ xs) (y ∷ ys) = record {
-  ops = attr_ops pen.attrs a ++ Print text ∷ [];
-  pen = pen_at r (glyph_columns wide) a;
+  ops = attr_ops_in pen.form pen.attrs a ++ Print text ∷ [];
+  pen = pen_in pen.form r (glyph_columns wide) a;
   flag = wrapped_after_glyph flag wide (drop 1 ys);
   settled = glyph_columns wide;
 }
@@ -181,8 +206,8 @@ abbrev pub break_ops : ℕ → Pen → List CellValue → Scripted
 break_ops r pen cells = record {
   ops =
       move_ops pen r (last_column cells)
-      ++ (EraseChars 1 ∷ (attr_ops pen.attrs (attrs_of (last_glyph cells)) ++ Print (text_of (last_glyph cells)) ∷ []));
-  pen = pen_after r cells;
+      ++ (EraseChars 1 ∷ (attr_ops_in pen.form pen.attrs (attrs_of (last_glyph cells)) ++ Print (text_of (last_glyph cells)) ∷ []));
+  pen = pen_after pen.form r cells;
   flag = false;
 }
 

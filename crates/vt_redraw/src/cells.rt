@@ -16,7 +16,7 @@ ghost use Rattle.vt_redraw.specs.Internals.{AppendsOrStops, GathersOrStops, IsAl
 ghost use Rattle.vt_redraw.specs.Internals.{SettlesOrStops, Writes, cells_from, cells_over, columns_of, glyph_ops};
 ghost use Rattle.vt_redraw.specs.Internals.{run_ops};
 ghost use Rattle.vt_redraw.specs.Refusals.{RefusedOnlyIfSome};
-ghost use Rattle.vt_redraw.specs.Script.{erase_run, pen_at, wrapped_after_erasure, wrapped_after_glyph};
+ghost use Rattle.vt_redraw.specs.Script.{erase_run, pen_in, wrapped_after_erasure, wrapped_after_glyph};
 
 use crate::passing::{next_other, stands_at};
 use crate::pen::Pen;
@@ -26,7 +26,7 @@ use vt_cells::{Attrs, Buffer, Cell, Pos, Sink, cell};
 
 /// The free space, in bytes, that a buffer must have before a glyph or a run of blanks is appended:
 /// enough for a cursor movement, an SGR sequence, and the longest text of a cell.
-const RUN_ROOM: usize = 118;
+const RUN_ROOM: usize = 121;
 
 /// Returns the number of columns that the glyph in a cell takes: 2 if the glyph is wide, otherwise
 /// 1.
@@ -62,7 +62,7 @@ pub fn write_text<S: Sink>(sink: &mut S, text: &str) -> Result<(), S::Error>
 #[inline]
 pub fn print_at<S: Sink>(sink: &mut S, pen: &mut Pen, pos: Pos, cell: &Cell) -> Result<(), S::Error>
     ensures ops { AppendsOrStops result (S.text sink.old) (S.text sink.new) (glyph_ops pen.old pos cell.now) }
-    ensures pen { OnOk result (pen.new ≡ pen_at pos.row pos.col (attrs_of cell.now)) }
+    ensures pen { OnOk result (pen.new ≡ pen_in pen.old.form pos.row pos.col (attrs_of cell.now)) }
 {
     pen.move_to(sink, pos)?;
     pen.change_attrs(sink, cell::attrs(cell))?;
@@ -81,7 +81,7 @@ fn gather_at<S: Sink>(
 ) -> Result<(), S::Error>
     ensures gathers { GathersOrStops result
         (S.text sink.old) buffer.old (S.text sink.new) buffer.new (glyph_ops pen.old pos cell.now) }
-    ensures pen { OnOk result (pen.new ≡ pen_at pos.row pos.col (attrs_of cell.now)) }
+    ensures pen { OnOk result (pen.new ≡ pen_in pen.old.form pos.row pos.col (attrs_of cell.now)) }
 {
     buffer.make_room(sink, RUN_ROOM)?;
     pen.push_move(buffer, pos);
@@ -103,7 +103,7 @@ fn gather_glyph<S: Sink>(
     requires { pos.col + columns_of cell.now < 65536 }
     ensures gathers { GathersOrStops result
         (S.text sink.old) buffer.old (S.text sink.new) buffer.new (glyph_ops pen.old pos cell.now) }
-    ensures pen { OnOk result (pen.new ≡ pen_at pos.row (pos.col + columns_of cell.now) (attrs_of cell.now)) }
+    ensures pen { OnOk result (pen.new ≡ pen_in pen.old.form pos.row (pos.col + columns_of cell.now) (attrs_of cell.now)) }
 {
     gather_at(sink, buffer, pen, pos, cell)?;
     pen.col = pos.col + columns(cell);
@@ -124,7 +124,7 @@ fn gather_byte<S: Sink>(
     requires one { length (text_of cell.now) ≡ 1 }
     ensures gathers { GathersOrStops result
         (S.text sink.old) buffer.old (S.text sink.new) buffer.new (glyph_ops pen.old pos cell.now) }
-    ensures pen { OnOk result (pen.new ≡ pen_at pos.row (pos.col + 1) (attrs_of cell.now)) }
+    ensures pen { OnOk result (pen.new ≡ pen_in pen.old.form pos.row (pos.col + 1) (attrs_of cell.now)) }
 {
     buffer.make_room(sink, RUN_ROOM)?;
     pen.push_move(buffer, pos);
@@ -173,7 +173,7 @@ pub fn write_run<S: Sink>(
     requires inside { pos.col + count ≤ length over.now.cells }
     requires short { pos.col + count < 65536 }
     ensures ops { AppendsOrStops result (S.text sink.old) (S.text sink.new) (run_ops pen.old pos attrs count over.now) }
-    ensures pen { OnOk result (pen.new ≡ pen_at pos.row pos.col attrs) }
+    ensures pen { OnOk result (pen.new ≡ pen_in pen.old.form pos.row pos.col attrs) }
 {
     pen.move_to(sink, pos)?;
     pen.change_attrs(sink, attrs)?;
@@ -212,7 +212,7 @@ fn gather_run<S: Sink>(
     requires short { pos.col + count < 65536 }
     ensures gathers { GathersOrStops result (S.text sink.old) buffer.old (S.text sink.new) buffer.new
         (run_ops pen.old pos attrs count over.now) }
-    ensures pen { OnOk result (pen.new ≡ pen_at pos.row pos.col attrs) }
+    ensures pen { OnOk result (pen.new ≡ pen_in pen.old.form pos.row pos.col attrs) }
 {
     buffer.make_room(sink, RUN_ROOM)?;
     pen.push_move(buffer, pos);

@@ -14,8 +14,9 @@ ghost use Rattle.vt_redraw.specs.Internals.{AppendsOrStops};
 ghost use Rattle.vt_redraw.specs.Redraw.{blank_passed, cursor_written, nearest, over_blank};
 ghost use Rattle.vt_redraw.specs.Redraw.{cursor_alone, pending_alone, pending_at, under_last};
 
+use crate::form::Form;
 use crate::links::write_last;
-use crate::pen::{Pen, write_change};
+use crate::pen::{Pen, write_change, write_change_in};
 use crate::view::View;
 use vt_cells::term::{Backspace, BufWrite, EraseChar, LineFeed, MoveTo, RestoreCursor, SaveCursor};
 use vt_cells::{Attrs, Pos, Sink, cell};
@@ -59,16 +60,21 @@ pub fn write_feeds<S: Sink>(sink: &mut S, count: u16) -> Result<(), S::Error>
 /// # Errors
 ///
 /// Returns the sink's error. Part of the output may have been written by then.
-pub fn write_passed<S: Sink>(sink: &mut S, was: Attrs, attrs: Attrs) -> Result<(), S::Error>
-    ensures { OnOk result (S.text sink.new ≡ S.text sink.old ++ bytes_of_all (blank_passed was attrs)) }
+pub fn write_passed<S: Sink>(
+    sink: &mut S,
+    form: Form,
+    was: Attrs,
+    attrs: Attrs,
+) -> Result<(), S::Error>
+    ensures { OnOk result (S.text sink.new ≡ S.text sink.old ++ bytes_of_all (blank_passed form was attrs)) }
 {
     sink.write_str(" ")?;
-    write_change(sink, was, attrs)?;
+    write_change_in(sink, form, was, attrs)?;
     SaveCursor.write_buf(sink)?;
     Backspace.write_buf(sink)?;
     EraseChar { count: 1 }.write_buf(sink)?;
     RestoreCursor.write_buf(sink)?;
-    write_change(sink, attrs, was)
+    write_change_in(sink, form, attrs, was)
 }
 
 /// Writes the sequences that leave a wrap pending at the end of row `row`: they print the last
@@ -89,7 +95,7 @@ fn write_under_last<S: Sink>(
 {
     let mut last = pen;
     write_last(sink, &mut last, found, &view.row(found))?;
-    write_change(sink, last.attrs, pen.attrs)?;
+    write_change_in(sink, pen.form, last.attrs, pen.attrs)?;
     write_feeds(sink, row - found)
 }
 
@@ -110,7 +116,7 @@ fn write_over_blank<S: Sink>(
     let attrs = cell::attrs(view.row(row).cell(col));
     let mut last = pen;
     last.move_to(sink, Pos { row, col })?;
-    write_passed(sink, pen.attrs, attrs)
+    write_passed(sink, pen.form, pen.attrs, attrs)
 }
 
 /// Writes the sequences that leave a wrap pending at the end of row `row`.
@@ -184,7 +190,7 @@ fn write_over_blank_alone<S: Sink>(sink: &mut S, view: &View<'_>, row: u16) -> R
     let attrs = cell::attrs(view.row(row).cell(col));
     let pos = Pos { row, col };
     MoveTo { pos }.write_buf(sink)?;
-    write_passed(sink, Attrs::new(), attrs)
+    write_passed(sink, Form::Fixed, Attrs::new(), attrs)
 }
 
 /// Writes the sequences that leave a wrap pending at the end of row `row`. The

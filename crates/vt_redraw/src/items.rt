@@ -18,6 +18,7 @@ ghost use Rattle.vt_redraw.specs.Picture.{SamePictureSize};
 ghost use Rattle.vt_redraw.specs.Refusals.{RefusedOnlyIfSome};
 
 use crate::cells::{wrapped_after_erasure, write_cells, write_run};
+use crate::form::Form;
 use crate::links::{write_break, write_first, write_last};
 use crate::pen::Pen;
 use crate::picture_row::PictureRow;
@@ -154,6 +155,7 @@ pub fn write_row_diff<S: Sink>(
         row,
         col: start,
         attrs: Attrs::new(),
+        form: Form::Fixed,
     };
     let mut flag = over.wrapped();
     let pos = Pos { row, col: start };
@@ -183,6 +185,7 @@ fn write_linked<S: Sink>(sink: &mut S, row: u16, cells: &PictureRow<'_>) -> Resu
         row,
         col: 0,
         attrs: Attrs::new(),
+        form: Form::Fixed,
     };
     let link = write_first(sink, &mut pen, row, false, cells, &over)?;
     let mut flag = link.flag;
@@ -212,6 +215,7 @@ fn write_over_blanks<S: Sink>(
         row: pos.row,
         col: pos.col,
         attrs: Attrs::new(),
+        form: Form::Fixed,
     };
     let mut flag = false;
     write_range(sink, &mut pen, &mut flag, pos, &cells.up_to(stop), &over)

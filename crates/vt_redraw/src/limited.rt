@@ -166,7 +166,7 @@ fn write_rows_within(
 /// Writes the output of [`crate::script::write_script`] to a string, but stops if the string has
 /// reached `limit` bytes before all rows are written. Returns whether all of the output was
 /// written.
-#[tactic(auto, unfolding(crate::specs::Redraw::script))]
+#[tactic(auto, unfolding(crate::specs::Redraw::script_in))]
 fn write_script_within(
     text: &mut String,
     view: &View<'_>,
@@ -190,7 +190,7 @@ fn write_script_within(
 /// Writes the output of [`crate::write_contents_formatted`] to a string, but stops if the string
 /// has reached `limit` bytes before all rows are written. Returns whether all of the output was
 /// written.
-#[tactic(auto, unfolding(crate::specs::Redraw::redraw))]
+#[tactic(auto, unfolding(crate::specs::Redraw::redraw_in))]
 fn write_redraw_within(text: &mut String, view: &View<'_>, limit: usize) -> Result<bool, Error>
     ensures { IfOk result (λ is_whole. AppendsWithin is_whole limit (string_bytes text.old) (string_bytes text.new)
         (bytes_of_all (redraw view.now))) }

@@ -1,15 +1,17 @@
-//! The pen: the cursor position and attributes of the terminal that reads the output.
+//! The pen: the cursor position and attributes of the terminal that reads the output, and the form
+//! of the output.
 
 ghost use Rattle.std.specs.Prelude.{◌≡◌, ◌+◌, ◌≤◌, ◌++◌, OnOk, length};
 ghost use Rattle.vt_cells.specs.Attrs.{default_attrs};
 ghost use Rattle.vt_cells.specs.Op.{bytes_of_all};
 ghost use Rattle.vt_redraw.specs.Internals.{AppendsOrStops};
-ghost use Rattle.vt_redraw.specs.Script.{attr_ops, move_ops, is_at, pen_at};
+ghost use Rattle.vt_redraw.specs.Script.{attr_ops, attr_ops_in, move_ops, is_at, pen_at, pen_in};
 
+use crate::form::{Form, resets};
 use vt_cells::term::{BufWrite, ChangeAttrs, MoveFromTo};
 use vt_cells::{Attrs, Buffer, Pos, Sink};
 
-/// The position of the terminal's cursor, and the terminal's attributes.
+/// The position of the terminal's cursor, the terminal's attributes, and the form of the output.
 ///
 /// Methods that write return the sink's error; part of the output may have been
 /// written by then.
@@ -24,11 +26,14 @@ pub struct Pen {
 
     /// The terminal's current attributes.
     pub attrs: Attrs,
+
+    /// The form in which output is written.
+    pub form: Form,
 }
 
 impl Pen {
     /// Creates the pen for a terminal that was just cleared: in the top left
-    /// corner, with default attributes.
+    /// corner, with default attributes. It writes the fixed form.
     pub fn new() -> Self
         ensures { result ≡ pen_at 0 0 default_attrs }
     {
@@ -36,6 +41,7 @@ impl Pen {
             row: 0,
             col: 0,
             attrs: Attrs::new(),
+            form: Form::Fixed,
         }
     }
 
@@ -57,7 +63,7 @@ impl Pen {
     #[inline]
     pub fn move_to<S: Sink>(&mut self, sink: &mut S, to: Pos) -> Result<(), S::Error>
         ensures ops { AppendsOrStops result (S.text sink.old) (S.text sink.new) (move_ops self.old to.row to.col) }
-        ensures pen { OnOk result (self.new ≡ pen_at to.row to.col self.old.attrs) }
+        ensures pen { OnOk result (self.new ≡ pen_in self.old.form to.row to.col self.old.attrs) }
     {
         if self.is_at(to.row, to.col) {
             return Ok(());
@@ -70,7 +76,7 @@ impl Pen {
     #[tactic(auto, unfolding(crate::specs::Script::move_ops))]
     fn jump<S: Sink>(&mut self, sink: &mut S, to: Pos) -> Result<(), S::Error>
         ensures ops { AppendsOrStops result (S.text sink.old) (S.text sink.new) (move_ops self.old to.row to.col) }
-        ensures pen { OnOk result (self.new ≡ pen_at to.row to.col self.old.attrs) }
+        ensures pen { OnOk result (self.new ≡ pen_in self.old.form to.row to.col self.old.attrs) }
     {
         let from = Pos {
             row: self.row,
@@ -91,13 +97,13 @@ impl Pen {
     /// then.
     #[inline]
     pub fn change_attrs<S: Sink>(&mut self, sink: &mut S, new: Attrs) -> Result<(), S::Error>
-        ensures ops { AppendsOrStops result (S.text sink.old) (S.text sink.new) (attr_ops self.old.attrs new) }
-        ensures pen { OnOk result (self.new ≡ pen_at self.old.row self.old.col new) }
+        ensures ops { AppendsOrStops result (S.text sink.old) (S.text sink.new) (attr_ops_in self.old.form self.old.attrs new) }
+        ensures pen { OnOk result (self.new ≡ pen_in self.old.form self.old.row self.old.col new) }
     {
         if self.attrs.is_same(&new) {
             return Ok(());
         }
-        write_change(sink, self.attrs, new)?;
+        write_change_in(sink, self.form, self.attrs, new)?;
         self.attrs = new;
         Ok(())
     }
@@ -109,7 +115,7 @@ impl Pen {
         requires { length buffer.old + 25 ≤ 256 }
         ensures text { buffer.new ≡ buffer.old ++ bytes_of_all (move_ops self.old to.row to.col) }
         ensures room { length buffer.new ≤ length buffer.old + 25 }
-        ensures pen { self.new ≡ pen_at to.row to.col self.old.attrs }
+        ensures pen { self.new ≡ pen_in self.old.form to.row to.col self.old.attrs }
     {
         if self.is_at(to.row, to.col) {
             return;
@@ -124,7 +130,7 @@ impl Pen {
         requires { length buffer.old + 25 ≤ 256 }
         ensures text { buffer.new ≡ buffer.old ++ bytes_of_all (move_ops self.old to.row to.col) }
         ensures room { length buffer.new ≤ length buffer.old + 25 }
-        ensures pen { self.new ≡ pen_at to.row to.col self.old.attrs }
+        ensures pen { self.new ≡ pen_in self.old.form to.row to.col self.old.attrs }
     {
         let from = Pos {
             row: self.row,
@@ -139,28 +145,36 @@ impl Pen {
     /// `buffer`, or nothing if the attributes are equal.
     #[inline]
     pub fn push_attrs(&mut self, buffer: &mut Buffer, new: Attrs)
-        requires { length buffer.old + 64 ≤ 256 }
-        ensures text { buffer.new ≡ buffer.old ++ bytes_of_all (attr_ops self.old.attrs new) }
-        ensures room { length buffer.new ≤ length buffer.old + 64 }
-        ensures pen { self.new ≡ pen_at self.old.row self.old.col new }
+        requires { length buffer.old + 67 ≤ 256 }
+        ensures text { buffer.new ≡ buffer.old ++ bytes_of_all (attr_ops_in self.old.form self.old.attrs new) }
+        ensures room { length buffer.new ≤ length buffer.old + 67 }
+        ensures pen { self.new ≡ pen_in self.old.form self.old.row self.old.col new }
     {
         if self.attrs.is_same(&new) {
             return;
         }
-        push_change(buffer, self.attrs, new);
+        push_change(buffer, self.form, self.attrs, new);
         self.attrs = new;
     }
 }
 
-/// Appends the SGR sequence that changes the attributes from `was` to `new`, or
-/// nothing if they are equal.
+/// Appends the SGR sequences that change the attributes from `was` to `new`, or nothing if they are
+/// equal.
 #[inline(never)]
-#[tactic(auto, using(crate::proofs::Writing::change_written))]
-fn push_change(buffer: &mut Buffer, was: Attrs, new: Attrs)
-    requires { length buffer.old + 64 ≤ 256 }
-    ensures text { buffer.new ≡ buffer.old ++ bytes_of_all (attr_ops was new) }
-    ensures room { length buffer.new ≤ length buffer.old + 64 }
+fn push_change(buffer: &mut Buffer, form: Form, was: Attrs, new: Attrs)
+    requires { length buffer.old + 67 ≤ 256 }
+    ensures text { buffer.new ≡ buffer.old ++ bytes_of_all (attr_ops_in form was new) }
+    ensures room { length buffer.new ≤ length buffer.old + 67 }
 {
+    if resets(form, was, new) {
+        buffer.push("\x1b[m");
+        ChangeAttrs {
+            was: Attrs::new(),
+            new,
+        }
+        .push(buffer);
+        return;
+    }
     ChangeAttrs { was, new }.push(buffer);
 }
 
@@ -176,4 +190,25 @@ pub fn write_change<S: Sink>(sink: &mut S, was: Attrs, new: Attrs) -> Result<(),
     ensures { AppendsOrStops result (S.text sink.old) (S.text sink.new) (attr_ops was new) }
 {
     ChangeAttrs { was, new }.write_buf(sink)
+}
+
+/// Writes the SGR sequences that change the attributes from `was` to `new` in the given form, or
+/// nothing if they are equal.
+///
+/// # Errors
+///
+/// Returns the sink's error. Part of the output may have been written by then.
+#[inline(never)]
+#[tactic(auto, unfolding(vt_cells::specs::BufferInternals::buffered_text))]
+pub fn write_change_in<S: Sink>(
+    sink: &mut S,
+    form: Form,
+    was: Attrs,
+    new: Attrs,
+) -> Result<(), S::Error>
+    ensures { AppendsOrStops result (S.text sink.old) (S.text sink.new) (attr_ops_in form was new) }
+{
+    let mut buffer = Buffer::new();
+    push_change(&mut buffer, form, was, new);
+    buffer.flush(sink)
 }

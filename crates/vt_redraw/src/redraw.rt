@@ -8,6 +8,7 @@ ghost use Rattle.vt_redraw.specs.Redraw.{cursor_state, difference, cursor_visibi
 
 use crate::cursor_rule::write_cursor_alone;
 use crate::drawn_rows::RowWatch;
+use crate::form::Form;
 use crate::script::write_script;
 use crate::view::View;
 use vt_cells::Sink;
@@ -19,7 +20,7 @@ use vt_cells::term::{BufWrite, ClearAttrs, ClearScreen, HideCursor};
 /// # Errors
 ///
 /// Returns the sink's error. Part of the output may have been written by then.
-#[tactic(auto, unfolding(crate::specs::Redraw::redraw))]
+#[tactic(auto, unfolding(crate::specs::Redraw::redraw_in))]
 pub fn write_contents_formatted<S: Sink>(sink: &mut S, view: &View<'_>) -> Result<(), S::Error>
     ensures { OnOk result (S.text sink.new ≡ S.text sink.old ++ bytes_of_all (redraw view.now)) }
 {
@@ -30,7 +31,7 @@ pub fn write_contents_formatted<S: Sink>(sink: &mut S, view: &View<'_>) -> Resul
     ClearAttrs.write_buf(sink)?;
     ClearScreen.write_buf(sink)?;
     let blank = view.blanked();
-    write_script(sink, view, &blank, &mut ())
+    write_script(sink, view, &blank, Form::Fixed, &mut ())
 }
 
 /// Writes the output that turns the display of `prev` into the display of
@@ -56,7 +57,7 @@ pub fn write_contents_diff<S: Sink>(
 /// # Errors
 ///
 /// Returns the sink's error. Part of the output may have been written by then.
-#[tactic(auto, unfolding(crate::specs::Redraw::difference))]
+#[tactic(auto, unfolding(crate::specs::Redraw::difference_in))]
 pub fn write_contents_diff_watched<S: Sink, W: RowWatch<S>>(
     sink: &mut S,
     view: &View<'_>,
@@ -68,7 +69,7 @@ pub fn write_contents_diff_watched<S: Sink, W: RowWatch<S>>(
     ensures nonempty { RefusedOnlyIfSome result (bytes_of_all (difference view.now prev.now)) }
 {
     write_hiding(sink, view, prev)?;
-    write_script(sink, view, prev, watch)
+    write_script(sink, view, prev, Form::Fixed, watch)
 }
 
 /// Writes the sequence that hides or shows the cursor if the cursor is hidden

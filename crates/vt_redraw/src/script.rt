@@ -10,13 +10,14 @@ ghost use Rattle.vt_cells.specs.Op.{bytes_of_all};
 ghost use Rattle.vt_redraw.specs.Internals.{AppendsOrStops, IsRowOver, Writes, row_behind};
 ghost use Rattle.vt_redraw.specs.Picture.{SamePictureSize};
 ghost use Rattle.vt_redraw.specs.Refusals.{RefusedOnlyIfSome};
-ghost use Rattle.vt_redraw.specs.Redraw.{row_written, rows_written, script};
+ghost use Rattle.vt_redraw.specs.Redraw.{row_written, rows_written, script_in};
 
 use crate::cells::write_cells;
 use crate::cursor_rule::write_cursor;
 use crate::drawn_rows::RowWatch;
+use crate::form::Form;
 use crate::links::{Link, write_break, write_link};
-use crate::pen::{Pen, write_change};
+use crate::pen::{Pen, write_change_in};
 use crate::picture_row::PictureRow;
 use crate::view::View;
 use vt_cells::{Pos, Sink};
@@ -108,24 +109,25 @@ fn write_rows<S: Sink, W: RowWatch<S>>(
 }
 
 /// Writes the sequences that turn the display of `prev` into that of `view`: first the rows, then
-/// the cursor position and the attributes. Does not hide or show the cursor. Notifies `watch` after
-/// each row.
+/// the cursor position and the attributes. The output has the given form. Does not hide or show the
+/// cursor. Notifies `watch` after each row.
 ///
 /// # Errors
 ///
 /// Returns the sink's error. Part of the output may have been written by then.
-#[tactic(auto, unfolding(crate::specs::Redraw::script))]
+#[tactic(auto, unfolding(crate::specs::Redraw::script_in))]
 pub fn write_script<S: Sink, W: RowWatch<S>>(
     sink: &mut S,
     view: &View<'_>,
     prev: &View<'_>,
+    form: Form,
     watch: &mut W,
 ) -> Result<(), S::Error>
     requires size { SamePictureSize view.now prev.now }
-    ensures { AppendsOrStops result (S.text sink.old) (S.text sink.new) (script view.now prev.now) }
+    ensures { AppendsOrStops result (S.text sink.old) (S.text sink.new) (script_in form view.now prev.now) }
 {
-    let mut pen = prev.pen();
+    let mut pen = prev.pen_in(form);
     write_rows(sink, &mut pen, view, prev, watch)?;
     write_cursor(sink, pen, view)?;
-    write_change(sink, pen.attrs, view.pen().attrs)
+    write_change_in(sink, form, pen.attrs, view.pen().attrs)
 }

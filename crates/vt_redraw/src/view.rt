@@ -9,8 +9,10 @@ ghost use Rattle.vt_redraw.specs.Internals.{IsPageUnder, row_seen};
 ghost use Rattle.vt_redraw.specs.Moved.{IsBand, picture_after_move, rows_moved};
 ghost use Rattle.vt_redraw.specs.Picture.{IsPicture, cut_rows, picture_over};
 ghost use Rattle.vt_redraw.specs.Redraw.{blank_like, pen_of};
+ghost use Rattle.vt_redraw.specs.declared.form.Form.TheVariants.{Fixed};
 
 use crate::band::Band;
+use crate::form::Form;
 use crate::pen::Pen;
 use crate::picture_row::PictureRow;
 use std::marker::Model;
@@ -72,6 +74,7 @@ impl<'a> View<'a> {
             row: pos.row,
             col: pos.col,
             attrs,
+            form: Form::Fixed,
         };
         View {
             above,
@@ -100,6 +103,7 @@ impl<'a> View<'a> {
             row: band.last_moved(size.rows),
             col: 0,
             attrs: Attrs::new(),
+            form: Form::Fixed,
         };
         View {
             above,
@@ -144,13 +148,29 @@ impl<'a> View<'a> {
         self.cols
     }
 
-    /// Returns the position of the cursor and the current attributes.
+    /// Returns the position of the cursor and the current attributes, as a pen that writes the fixed
+    /// form.
     #[inline]
     pub fn pen(&self) -> Pen
-        ensures value { result ≡ pen_of self.now }
+        ensures value { result ≡ pen_of Fixed self.now }
         ensures inside { self.now.row < length self.now.rows }
     {
-        self.pen
+        self.pen_in(Form::Fixed)
+    }
+
+    /// Returns the position of the cursor and the current attributes, as a pen that writes the given
+    /// form.
+    #[inline]
+    pub fn pen_in(&self, form: Form) -> Pen
+        ensures value { result ≡ pen_of form self.now }
+        ensures inside { self.now.row < length self.now.rows }
+    {
+        Pen {
+            row: self.pen.row,
+            col: self.pen.col,
+            attrs: self.pen.attrs,
+            form,
+        }
     }
 
     /// Returns whether the cursor is hidden.

@@ -31,7 +31,7 @@ use Rattle.vt_redraw.specs.Items.{is_linked, item_of_difference, item_of_redraw}
 use Rattle.vt_redraw.specs.Locality.{row_of_picture}
 use Rattle.vt_redraw.specs.Moved.{IsScrolling, band_text, down_text, lines_deleted_text, lines_inserted_text}
 use Rattle.vt_redraw.specs.Moved.{picture_after_move, moving_text, scrolling_text, up_text}
-use Rattle.vt_redraw.specs.Script.{attr_ops}
+use Rattle.vt_redraw.specs.Script.{attr_ops, attr_ops_in}
 use Rattle.vt_redraw.specs.Shifted.{IsMoving, in_default_attrs, shift_text, shifted_all, shifting_text, shifts_text}
 use Rattle.vt_redraw.specs.declared.row_shift.RowShift.{RowShift}
 use Rattle.vt_redraw.proofs.Shifting.{attrs_shifted}
@@ -248,7 +248,7 @@ band_made height band =
     (deleted_made (band.bottom - band.count) band.count) (inserted_made band.top band.count)))
 
 attr_ops_made : (was new : Attrs) → IsMadeOf drawing_finals drawing_controls (bytes_of_all (attr_ops was new))
-unfolding attr_ops
+unfolding attr_ops_in
 attr_ops_made was new = by_same (same_attrs was new) where
   by_same : (b : Bool) →
       IsMadeOf drawing_finals drawing_controls (bytes_of_all (if b then [] else ChangeAttrs was new ∷ []))

@@ -10,7 +10,7 @@ use Rattle.vt_grid.specs.declared.page_step.PageStep.TheVariants as page
 use Rattle.vt_redraw.specs.Moved.{IsBand, IsScrolling, band_text, down_text, lines_deleted_text, lines_inserted_text}
 use Rattle.vt_redraw.specs.Moved.{picture_after_move, scrolling_text, up_text}
 use Rattle.vt_redraw.specs.Redraw.{difference}
-use Rattle.vt_redraw.specs.Script.{attr_ops}
+use Rattle.vt_redraw.specs.Script.{attr_ops, attr_ops_in}
 use Rattle.vt_redraw.specs.declared.band.Band.{Band}
 use Rattle.vt_redraw.proofs.Fitting.{difference_fits}
 use Rattle.vt_redraw.proofs.Saving.{difference_safe}
@@ -89,7 +89,7 @@ band_goes height band reader screen tall is h =
 
 pub change_goes : (was : Attrs) (reader screen : ScreenValue) → FitsAttrs was → Holds false reader screen →
     Goes false reader screen (bytes_of_all (attr_ops was default_attrs))
-unfolding attr_ops
+unfolding attr_ops_in
 change_goes was reader screen fits h = by_same (same_attrs was default_attrs)
   where
     by_same : (b : Bool) →

@@ -3,7 +3,7 @@ use Rattle.std.proofs.Common.{◌≡◌, ◌<◌, ◌≤◌, ℕ, Bool, true, fa
 use Rattle.std.proofs.Common.{sym, ◌∙◌, arith, inl, inr}
 use Rattle.vt_cells.specs.Op.{ClearAttrs, EraseBelow, Hide, MoveTo, bytes_of, bytes_of_all}
 use Rattle.vt_redraw.specs.Picture.{Picture}
-use Rattle.vt_redraw.specs.Redraw.{blank_like, redraw, script}
+use Rattle.vt_redraw.specs.Redraw.{blank_like, redraw, redraw_in, script}
 use Rattle.vt_screen.specs.Again.{KeepsPlain}
 use Rattle.vt_screen.specs.MadeOf.{IsMadeOf, drawing_controls, drawing_finals, shortened_controls, shortened_finals}
 use Rattle.vt_screen.specs.Screen.{IsColored, IsScreen, ScreenValue}
@@ -59,7 +59,7 @@ hide_len false = refl
 
 -- Every redraw begins by hiding or showing the cursor, resetting the attributes and clearing the screen.
 pub redraw_least : (picture : Picture) → 15 ≤ length (bytes_of_all (redraw picture))
-unfolding redraw
+unfolding redraw_in
 redraw_least picture =
     let hide = hide_len picture.hidden in
     let size = length-append (bytes_of (Hide picture.hidden))

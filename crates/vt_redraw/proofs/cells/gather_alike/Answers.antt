@@ -5,7 +5,7 @@ use Rattle.vt_cells.specs.Cell.{is_wide, text_of}
 use Rattle.vt_cells.specs.Glyph.{glyph_columns}
 use Rattle.vt_rows.specs.Cells.{at}
 use Rattle.vt_redraw.specs.Internals.{cells_from}
-use Rattle.vt_redraw.specs.Script.{pen_at}
+use Rattle.vt_redraw.specs.Script.{pen_in}
 use Rattle.vt_redraw.proofs.Alike.{alike_inside, alike_leads, narrow_keeps, read_at}
 use Rattle.vt_redraw.proofs.CellSteps.{leads_then}
 use Rattle.vt_redraw.proofs.cells.gather_alike.Goals as goal
@@ -37,9 +37,9 @@ loop-own-preserved c =
           λ before. leads_then (buffered_text before c.args.buffer.now) (buffered_text before l.buffer)
           (buffered_text before c.push_one.new.self)
           (cells_from pen.row pen.col pen flag xs ys)
-          (cells_from pen.row l.col (pen_at pen.row l.col pen.attrs) flag xs ys)
-          (cells_from pen.row next (pen_at pen.row next pen.attrs) flag xs ys) (l.invariant.leads before)
-          (alike_leads pen.row l.col 1 pen.attrs flag flag like own others xs ys before l.buffer c.push_one.new.self alike
+          (cells_from pen.row l.col (pen_in pen.form pen.row l.col pen.attrs) flag xs ys)
+          (cells_from pen.row next (pen_in pen.form pen.row next pen.attrs) flag xs ys) (l.invariant.leads before)
+          (alike_leads pen.form pen.row l.col 1 pen.attrs flag flag like own others xs ys before l.buffer c.push_one.new.self alike
           text c.requires.attrs c.own_cells-own.ensures.first c.own_cells-own.ensures.inside
           c.own_cells-others.ensures.first c.own_cells-others.ensures.blank c.requires.range.inside
           columns pushed flags);

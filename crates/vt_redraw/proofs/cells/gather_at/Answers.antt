@@ -5,7 +5,7 @@ use Rattle.vt_redraw.proofs.Writing.{placed_gathered}
 use Rattle.vt_cells.proofs.Cells.{text_short}
 use Rattle.vt_cells.specs.Cell.{attrs_of, text_of}
 use Rattle.vt_cells.specs.Op.{Print}
-use Rattle.vt_redraw.specs.Script.{attr_ops, move_ops}
+use Rattle.vt_redraw.specs.Script.{attr_ops_in, move_ops}
 use Rattle.vt_redraw.proofs.cells.gather_at.Goals as goal
 
 pub returns-in_err-make_room-clause-gathers : goal.returns-in_err-make_room-clause-gathers
@@ -32,7 +32,7 @@ returns-clause-gathers g c =
     record {
       text =
           placed_gathered (g.S.Sink.text c.make_room.new.sink) _ c.make_room.new.self c.push_move.new.buffer
-          c.push_attrs.new.buffer c.push.new.self (move_ops pen pos.row pos.col) (attr_ops pen.attrs (attrs_of x))
+          c.push_attrs.new.buffer c.push.new.self (move_ops pen pos.row pos.col) (attr_ops_in pen.form pen.attrs (attrs_of x))
           (Print (text_of x)) c.in_ok-make_room.ensures.text c.push_move.ensures.text (search rules) (search rules);
       grows = c.in_ok-make_room.ensures.grows;
       nonempty = search rules;

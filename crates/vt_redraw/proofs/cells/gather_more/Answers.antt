@@ -4,7 +4,7 @@ use Rattle.vt_cells.specs.BufferInternals.{buffered_text}
 use Rattle.vt_cells.specs.Cell.{text_of}
 use Rattle.vt_rows.specs.Cells.{at}
 use Rattle.vt_redraw.specs.Internals.{cells_from}
-use Rattle.vt_redraw.specs.Script.{pen_at, wrapped_after_glyph}
+use Rattle.vt_redraw.specs.Script.{pen_in, wrapped_after_glyph}
 use Rattle.vt_redraw.proofs.Alike.{alike_inside, alike_leads, glyph_text, read_at}
 use Rattle.vt_redraw.proofs.CellSteps.{leads_then}
 use Rattle.vt_redraw.proofs.cells.gather_more.Goals as goal
@@ -37,9 +37,9 @@ loop-own-preserved c =
           λ before. leads_then (buffered_text before c.args.buffer.now) (buffered_text before l.buffer)
           (buffered_text before c.push.new.self)
           (cells_from pen.row pen.col pen c.args.flag.now xs ys)
-          (cells_from pen.row l.col (pen_at pen.row l.col pen.attrs) l.on xs ys)
-          (cells_from pen.row next (pen_at pen.row next pen.attrs) on xs ys) (l.invariant.leads before)
-          (alike_leads pen.row l.col n pen.attrs l.on on like own others xs ys before l.buffer c.push.new.self alike
+          (cells_from pen.row l.col (pen_in pen.form pen.row l.col pen.attrs) l.on xs ys)
+          (cells_from pen.row next (pen_in pen.form pen.row next pen.attrs) on xs ys) (l.invariant.leads before)
+          (alike_leads pen.form pen.row l.col n pen.attrs l.on on like own others xs ys before l.buffer c.push.new.self alike
           text c.requires.attrs c.own_cells-own.ensures.first c.own_cells-own.ensures.inside
           c.own_cells-others.ensures.first c.own_cells-others.ensures.blank c.requires.range.inside
           c.columns-count.ensures pushed flags);

@@ -3,7 +3,7 @@ use Rattle.vt_cells.proofs.Sinks.{on_err}
 use Rattle.vt_cells.specs.Cell.{attrs_of, is_blank}
 use Rattle.vt_cells.specs.Op.{bytes_of_all}
 use Rattle.vt_cells.specs.BufferInternals.{buffered_text}
-use Rattle.vt_redraw.specs.Script.{erase_run, pen_at, placed_op, wrapped_after_erasure}
+use Rattle.vt_redraw.specs.Script.{erase_run, pen_in, placed_op, wrapped_after_erasure}
 use Rattle.vt_redraw.proofs.CellSteps.{next_run, run_some}
 use Rattle.vt_redraw.proofs.Refusals.{buffer_some, start_some}
 use Rattle.vt_redraw.proofs.cells.write_next.Goals as goal
@@ -46,7 +46,7 @@ returns-in_err-gather_run g c =
           on_err c.from_residual.result
           (buffer_some c.args.buffer.now bytes _
           (start_some bytes _ _
-          (next_run row col n c.args.pen.now (pen_at row col attrs) c.args.flag.now
+          (next_run row col n c.args.pen.now (pen_in c.args.pen.now.form row col attrs) c.args.flag.now
           (wrapped_after_erasure c.args.flag.now (drop (col + n) ys)) c.args.cells.now.cells ys attrs [] bytes c.requires.other.inside
           c.requires.other.range.inside c.requires.other.other
           (ap is_blank (sym c.requires.cell) ∙ (sym c.is_blank.ensures ∙ c.if-not-is_blank.false))

@@ -7,15 +7,15 @@ use Rattle.vt_redraw.specs.Redraw.{under_last}
 use Rattle.vt_redraw.proofs.Refusals.{feeds_some, under_last_some, under_last_text}
 use Rattle.vt_redraw.proofs.cursor_rule.write_under_last.Goals as goal
 
-pub returns-in_err-write_change : goal.returns-in_err-write_change
-returns-in_err-write_change g c = record {
+pub returns-in_err-write_change_in : goal.returns-in_err-write_change_in
+returns-in_err-write_change_in g c = record {
   text = search rules;
   nonempty =
-      on_err c.from_residual-in_err-write_change.result
+      on_err c.from_residual-in_err-write_change_in.result
       (subst (λ (z : RowValue). 0 < length (bytes_of_all (under_last c.args.pen c.args.found c.args.row z.cells)))
       c.row.ensures.value
       (under_last_some c.args.pen c.write_last.new.pen c.args.found c.args.row c.row.result.cells
-      c.in_ok-write_last.ensures.pen c.in_err-write_change.ensures.nonempty));
+      c.in_ok-write_last.ensures.pen c.in_err-write_change_in.ensures.nonempty));
 }
 
 pub returns : goal.returns
@@ -26,8 +26,8 @@ returns g c =
           on_ok_weaker c.write_feeds.result
           (λ fed. under_last_text c.args.pen c.write_last.new.pen c.args.found c.args.row c.row.result.cells
           (text c.args.sink.now) (text c.write_last.new.sink)
-          (text c.write_change.new.sink) (text c.write_feeds.new.sink)
-          c.in_ok-write_last.ensures.ops.text c.in_ok-write_last.ensures.pen c.in_ok-write_change.ensures.text fed
+          (text c.write_change_in.new.sink) (text c.write_feeds.new.sink)
+          c.in_ok-write_last.ensures.ops.text c.in_ok-write_last.ensures.pen c.in_ok-write_change_in.ensures.text fed
           ∙ ap (λ (z : RowValue). text c.args.sink.now
           ++ bytes_of_all (under_last c.args.pen c.args.found c.args.row z.cells)) c.row.ensures.value)
           c.write_feeds.ensures.text;

@@ -1,6 +1,6 @@
 use Rattle.std.proofs.Common.{◌+◌, ◌++◌, drop, refl, ap, sym, ◌∙◌, arith}
 use Rattle.vt_cells.specs.Op.{bytes_of_all}
-use Rattle.vt_redraw.specs.Script.{placed_op, erase_run, pen_at, blank_run}
+use Rattle.vt_redraw.specs.Script.{placed_op, erase_run, pen_in, blank_run}
 use Rattle.vt_cells.specs.Cell.{is_right_half}
 use Rattle.vt_redraw.proofs.CellSteps.{half_stands, half_erased}
 use Rattle.std.proofs.Common.{[], ◌<◌, length, subst}
@@ -54,7 +54,7 @@ returns-clause-leads g c =
           ∙ ap (λ a. text c.args.sink.now
           ++ bytes_of_all (placed_op c.args.pen.now c.args.pos.row col a (erase_run (n + 1) (drop (col + (n + 1)) ys))))
           c.new-attrs.ensures)
-          (c.in_ok-write_run.ensures.pen ∙ ap (λ a. pen_at c.args.pos.row col a) c.new-attrs.ensures)
+          (c.in_ok-write_run.ensures.pen ∙ ap (λ a. pen_in c.args.pen.now.form c.args.pos.row col a) c.new-attrs.ensures)
           c.wrapped_after_erasure.ensures;
       grows = grown _ _ _ c.in_ok-write_run.ensures.ops.text;
     }
@@ -74,7 +74,7 @@ returns-in_err-write_run-clause-nonempty g c =
     bytes_of_all (placed_op c.args.pen.now row col a (erase_run (n + 1) (drop (col + (n + 1)) ys))) in
     on_err c.from_residual.result
     (start_some (bytes default_attrs) _ _
-    (half_erased row col n (n + 1) c.args.pen.now (pen_at row col default_attrs) c.args.flag.now
+    (half_erased row col n (n + 1) c.args.pen.now (pen_in c.args.pen.now.form row col default_attrs) c.args.flag.now
     (wrapped_after_erasure c.args.flag.now (drop (col + (n + 1)) ys)) xs ys [] (bytes default_attrs) (omega arith)
     c.requires.range.inside
     (ap is_right_half (sym c.cell.ensures) ∙ (sym c.is_wide_continuation.ensures ∙ c.if-not-is_wide_continuation.false))

@@ -1,18 +1,18 @@
 use Rattle.std.proofs.Common.{◌∙◌, ap, rules, sym, append-nil}
 use Rattle.vt_cells.proofs.Same.{attrs_of-same}
-use Rattle.vt_redraw.specs.Script.{pen_at}
+use Rattle.vt_redraw.specs.Script.{pen_in}
 use Rattle.vt_redraw.proofs.Writing.{change_none}
 use Rattle.vt_redraw.proofs.pen.Pen.change_attrs.Goals as goal
 
 pub returns-then-is_same-clause-ops : goal.returns-then-is_same-clause-ops
 returns-then-is_same-clause-ops g c = record {
   text =
-      rw (change_none c.args.self.now.attrs c.args.new (sym c.is_same.ensures ∙ c.if-is_same.true))
+      rw (change_none c.args.self.now.form c.args.self.now.attrs c.args.new (sym c.is_same.ensures ∙ c.if-is_same.true))
       (sym (append-nil _));
   nonempty = search rules;
 }
 
 pub returns-then-is_same-clause-pen : goal.returns-then-is_same-clause-pen
 returns-then-is_same-clause-pen g c =
-    ap (λ attrs. pen_at c.args.self.now.row c.args.self.now.col attrs)
+    ap (λ attrs. pen_in c.args.self.now.form c.args.self.now.row c.args.self.now.col attrs)
     (attrs_of-same _ _ (sym c.is_same.ensures ∙ c.if-is_same.true))

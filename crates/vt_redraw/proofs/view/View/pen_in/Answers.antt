@@ -1,7 +1,7 @@
 use Rattle.std.proofs.Common.{length, subst, ◌<◌}
 use Rattle.vt_redraw.specs.Picture.{Picture}
 use Rattle.vt_redraw.proofs.Viewing.{viewed_row}
-use Rattle.vt_redraw.proofs.view.View.pen.Goals as goal
+use Rattle.vt_redraw.proofs.view.View.pen_in.Goals as goal
 
 pub returns-clause-inside : goal.returns-clause-inside
 returns-clause-inside c =
