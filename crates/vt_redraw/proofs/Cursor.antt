@@ -9,17 +9,17 @@ use Rattle.std.proofs.lemmas.Bool.Decides.{nat_tests}
 use Rattle.std.proofs.lemmas.List.{length-append, get_or_at}
 use Rattle.vt_cells.specs.Attrs.{default_attrs, Attrs}
 use Rattle.vt_cells.specs.Cell.{CellValue, blank, glyph, right_half, default_blank, attrs_of}
-use Rattle.vt_cells.specs.Op.{Op, Print, LineFeed, Backspace, EraseChars, SaveCursor, RestoreCursor}
+use Rattle.vt_cells.specs.Op.{Op, Print, LineFeed, EraseChars, SaveCursor, RestoreCursor}
 use Rattle.vt_rows.specs.Cells.{at, ends_blank}
 use Rattle.vt_rows.specs.Row.{RowValue, blank_row}
 use Rattle.vt_grid.specs.Page.{row_or}
 use Rattle.vt_grid.specs.Moves.{line_feed}
 use Rattle.vt_grid.specs.Canvas.{Canvas}
-use Rattle.vt_redraw.specs.Script.{pen_at, move_ops, attr_ops_in}
+use Rattle.vt_redraw.specs.Script.{pen_at, move_ops, attr_ops_in, back_op}
 use Rattle.vt_redraw.specs.declared.form.Form.{Form}
 use Rattle.vt_redraw.specs.declared.pen.Pen.{Pen}
 use Rattle.vt_grid.proofs.Drawing.{Draws, draws_then}
-use Rattle.vt_redraw.proofs.Steps.{at_pen, Reads, Within, going_draws, changing_draws}
+use Rattle.vt_redraw.proofs.Steps.{at_pen, Reads, Within, going_draws, changing_draws, back_draws}
 use Rattle.vt_redraw.specs.Picture.{Saved, with_saved}
 use Rattle.vt_redraw.specs.Script.{after_last_glyph, is_at, last_column}
 use Rattle.vt_redraw.specs.Locality.{placing_row}
@@ -32,6 +32,8 @@ use Rattle.vt_redraw.proofs.Places.{going_there}
 use Rattle.vt_redraw.proofs.Spaces.{space_prints}
 use Rattle.vt_redraw.proofs.Link.{erase_last, going_after_draws, print_bare, same_pen}
 use Rattle.vt_redraw.proofs.Rows.{Stands, PrintsRow}
+use Rattle.vt_redraw.proofs.Touched.{back_quiet}
+use Rattle.vt_redraw.specs.declared.form.Form.TheVariants.{Fixed}
 
 -- ---- rows by index
 
@@ -183,17 +185,17 @@ saved_at base row column attrs =
 -- Printing a space and erasing it again makes a wrap pending.
 pub blank_passed_draws : (May : ℕ → ℕ → Type 0) (form : Form) (base : Canvas)
     (done below : List RowValue) (pre : List CellValue) (r : ℕ) (was b : Attrs) →
-    0 < base.page.width → length done ≡ r → length pre + 1 ≡ base.page.width →
+    base.page.origin ≡ false → 0 < base.page.width → length done ≡ r → length pre + 1 ≡ base.page.width →
     Paired pre → ((k : ℕ) → length pre ≤ k → k < base.page.width → May r k) →
-    DrawsIn May (blank_passed form was b) (mid base done below (pre ++ blank b ∷ []) false (pen_at r (length pre) was))
+    DrawsIn May (blank_passed form r (length pre) was b) (mid base done below (pre ++ blank b ∷ []) false (pen_at r (length pre) was))
     (mid (saved_at base r base.page.width b) done below (pre ++ blank b ∷ []) false (pen_at r base.page.width was))
-blank_passed_draws May form base done below pre r was b pos e w h may =
+blank_passed_draws May form base done below pre r was b o pos e w h may =
     let row = pre ++ blank b ∷ [] in
     let spaced = pre ++ glyph (0x20 ∷ []) false was ∷ [] in
     let c = length pre in
     let width = base.page.width in
     let other = saved_at base r width b in
-    let col : width - 1 ≡ c = omega arith in
+    let size = length-append done (row_of spaced false ∷ below) in
     let prints = space_prints width pos in
     let m1 = mid base done below row false (pen_at r c was) in
     let m2 = mid base done below spaced false (pen_at r width was) in
@@ -202,23 +204,28 @@ blank_passed_draws May form base done below pre r was b pos e w h may =
     let m5 = mid other done below row false (pen_at r width b) in
     let m6 = mid other done below row false (pen_at r width was) in
     in_then May (Print (0x20 ∷ []) ∷ [])
-    (attr_ops_in form was b ++ (SaveCursor ∷ Backspace ∷ EraseChars 1 ∷ RestoreCursor ∷ attr_ops_in form b was)) m1 m2 m6
+    (attr_ops_in form was b ++ (SaveCursor ∷ back_op form r c ∷ EraseChars 1 ∷ RestoreCursor ∷ attr_ops_in form b was)) m1 m2 m6
     (in_to May (Print (0x20 ∷ []) ∷ []) m1 (mid base done below spaced false (pen_at r (c + 1) was)) m2
-    (print_bare May base done below pre (0x20 ∷ []) false b was r prints e w h may)
+    (print_bare May Fixed base done below pre (0x20 ∷ []) false b was r prints e w h may)
     (ap (λ (z : ℕ). mid base done below spaced false (pen_at r z was)) w))
-    (in_then May (attr_ops_in form was b) (SaveCursor ∷ Backspace ∷ EraseChars 1 ∷ RestoreCursor ∷ attr_ops_in form b was) m2 m3 m6
+    (in_then May (attr_ops_in form was b) (SaveCursor ∷ back_op form r c ∷ EraseChars 1 ∷ RestoreCursor ∷ attr_ops_in form b was) m2 m3 m6
     (quiet_in May (attr_ops_in form was b) m2 m3 (changing_quiet form was b)
     (changing_draws form base (done ++ row_of spaced false ∷ below) (pen_at r width was) b))
-    (in_then May (SaveCursor ∷ Backspace ∷ []) (EraseChars 1 ∷ RestoreCursor ∷ attr_ops_in form b was) m3 m4 m6
-    (quiet_in May (SaveCursor ∷ Backspace ∷ []) m3 m4 (refl, (refl, tt))
-    (ap (λ (z : ℕ). Some (mid other done below spaced false (pen_at r z b))) col))
+    (in_then May (SaveCursor ∷ []) (back_op form r c ∷ EraseChars 1 ∷ RestoreCursor ∷ attr_ops_in form b was)
+    m3 (mid other done below spaced false (pen_at r width b)) m6
+    (quiet_in May (SaveCursor ∷ []) m3 (mid other done below spaced false (pen_at r width b)) (refl, tt) refl)
+    (in_then May (back_op form r c ∷ []) (EraseChars 1 ∷ RestoreCursor ∷ attr_ops_in form b was)
+    (mid other done below spaced false (pen_at r width b)) m4 m6
+    (quiet_in May (back_op form r c ∷ []) (mid other done below spaced false (pen_at r width b)) m4 (back_quiet form r c)
+    (subst (λ (z : ℕ). Draws (back_op form r c ∷ []) (mid other done below spaced false (pen_at r z b)) m4) w
+    (back_draws form other (done ++ row_of spaced false ∷ below) r c b o (omega arith) (omega arith))))
     (in_then May (EraseChars 1 ∷ []) (RestoreCursor ∷ attr_ops_in form b was)
     m4 (mid other done below row false (pen_at r c b)) m6
-    (erase_last May other done below pre (0x20 ∷ []) false was b false r e w h may)
+    (erase_last May Fixed other done below pre (0x20 ∷ []) false was b false r e w h may)
     (in_then May (RestoreCursor ∷ []) (attr_ops_in form b was) (mid other done below row false (pen_at r c b)) m5 m6
     (quiet_in May (RestoreCursor ∷ []) (mid other done below row false (pen_at r c b)) m5 (refl, tt) refl)
     (quiet_in May (attr_ops_in form b was) m5 m6 (changing_quiet form b was)
-    (changing_draws form other (done ++ row_of row false ∷ below) (pen_at r width b) was))))))
+    (changing_draws form other (done ++ row_of row false ∷ below) (pen_at r width b) was)))))))
 
 over_blank_draws : (May : ℕ → ℕ → Type 0) (base : Canvas) (done below : List RowValue)
     (pre : List CellValue) (pen : Pen) (r height : ℕ) (b : Attrs) →
@@ -235,12 +242,14 @@ over_blank_draws May base done below pre pen r height b reads e rows w h within 
     let col : width - 1 ≡ length pre = omega arith in
     let m0 = mid base done below row false pen in
     let m1 = mid base done below row false (pen_at r (length pre) pen.attrs) in
-    in_then May (move_ops pen r (width - 1)) (blank_passed pen.form pen.attrs b) m0 m1
+    in_then May (move_ops pen r (width - 1)) (blank_passed pen.form r (width - 1) pen.attrs b) m0 m1
     (mid (saved_at base r width b) done below row false (pen_at r width pen.attrs))
     (in_to May (move_ops pen r (width - 1)) m0 (mid base done below row false (pen_at r (width - 1) pen.attrs)) m1
     (going_there May base done below row false r (width - 1) height pen reads e rows (omega arith) within)
     (ap (λ (z : ℕ). mid base done below row false (pen_at r z pen.attrs)) col))
-    (blank_passed_draws May pen.form base done below pre r pen.attrs b reads.has_columns e w h may)
+    (subst (λ (k : ℕ). DrawsIn May (blank_passed pen.form r k pen.attrs b) m1
+    (mid (saved_at base r width b) done below row false (pen_at r width pen.attrs))) (sym col)
+    (blank_passed_draws May pen.form base done below pre r pen.attrs b reads.origin reads.has_columns e w h may))
 
 -- If a row ends with a blank, the first column of its last cell is the column of that blank.
 pub last_blank_column : (pre : List CellValue) (b : Attrs) → last_column (pre ++ blank b ∷ []) ≡ length pre

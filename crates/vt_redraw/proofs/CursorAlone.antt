@@ -151,14 +151,14 @@ alone_draws May base rows p r height None attrs reads size all prints low near m
     ∙ ap (λ (z : Bool). v.done ++ row_of row z ∷ v.below) (off x.wrapped x.cells ok.sound full)) in
     let pen = pen_at p.row p.col default_attrs in
     let goal = pen_at r width default_attrs in
-    let passed = λ (a : Attrs). MoveTo r (width - 1) ∷ blank_passed Fixed default_attrs a in
+    let passed = λ (a : Attrs). MoveTo r (width - 1) ∷ blank_passed Fixed r (width - 1) default_attrs a in
     let m1 = at_pen base rows (pen_at r (width - 1) default_attrs) in
     let moved = quiet_in May (MoveTo r (width - 1) ∷ []) (at_pen base rows pen) m1 (refl, tt)
     (move_to_draws base rows pen r (width - 1) reads.origin (omega arith) (omega arith)) in
-    let there = subst (λ (z : List RowValue). DrawsIn May (blank_passed Fixed default_attrs b)
+    let there = subst (λ (z : List RowValue). DrawsIn May (blank_passed Fixed r (length k.pre) default_attrs b)
     (at_pen base z (pen_at r (length k.pre) default_attrs)) (at_pen (saved_at base r width b) z goal))
     (sym same)
-    (blank_passed_draws May Fixed base v.done v.below k.pre r default_attrs b pos v.above (omega arith)
+    (blank_passed_draws May Fixed base v.done v.below k.pre r default_attrs b reads.origin pos v.above (omega arith)
     k.front (λ j low high. may j (subst (λ (n : ℕ). n ≤ j) (sym last) low) high)) in (
       record { row = r; column = width; origin = base.page.origin; attrs = b },
       subst (λ (c : Attrs). DrawsIn May (passed (attrs_of (at x.cells (width - 1))))
@@ -167,9 +167,9 @@ alone_draws May base rows p r height None attrs reads size all prints low near m
           (subst
           (λ (a : Attrs). DrawsIn May (passed a) (at_pen base rows pen) (at_pen (saved_at base r width b) rows goal))
           (sym blank_attrs)
-          (in_then May (MoveTo r (width - 1) ∷ []) (blank_passed Fixed default_attrs b)
+          (in_then May (MoveTo r (width - 1) ∷ []) (blank_passed Fixed r (width - 1) default_attrs b)
           (at_pen base rows pen) m1 (at_pen (saved_at base r width b) rows goal) moved
-          (subst (λ (z : ℕ). DrawsIn May (blank_passed Fixed default_attrs b)
+          (subst (λ (z : ℕ). DrawsIn May (blank_passed Fixed r z default_attrs b)
           (at_pen base rows (pen_at r z default_attrs)) (at_pen (saved_at base r width b) rows goal))
           (sym col) there))),
     )

@@ -16,9 +16,9 @@ use Rattle.vt_rows.specs.Row.{RowValue, IsRow}
 use Rattle.vt_grid.specs.Page.{row_or}
 use Rattle.vt_redraw.specs.Fits.{Fits, IsDrawnText}
 use Rattle.vt_cells.specs.Glyph.{glyph_columns}
-use Rattle.vt_redraw.specs.Script.{move_ops, attr_ops, blank_run, erase_run, pen_in, attr_ops_in, resets}
+use Rattle.vt_redraw.specs.Script.{move_ops, attr_ops, blank_run, erase_run, pen_in, attr_ops_in, resets, back_op}
 use Rattle.vt_redraw.specs.declared.form.Form.{Form}
-use Rattle.vt_redraw.specs.declared.form.Form.TheVariants.{Fixed}
+use Rattle.vt_redraw.specs.declared.form.Form.TheVariants.{Fixed, Portable}
 use Rattle.vt_redraw.specs.declared.pen.Pen.{Pen}
 use Rattle.vt_redraw.proofs.Runs.{run_bound}
 use Rattle.vt_redraw.proofs.Printable.{printable_text}
@@ -29,7 +29,7 @@ use Rattle.vt_redraw.specs.Script.{break_ops, ops_then_link, row_break, row_link
 use Rattle.vt_redraw.specs.Redraw.{row_written, link_of, rows_below, rows_written, nearest, over_blank, script_in}
 use Rattle.vt_redraw.specs.Redraw.{under_last, pending_at, cursor_written, pen_of, cursor_visibility_ops, difference_in}
 use Rattle.vt_redraw.specs.Redraw.{difference, blank_like, redraw, pending_alone, cursor_state, redraw_in}
-use Rattle.vt_redraw.specs.Script.{change_ops}
+use Rattle.vt_redraw.specs.Script.{change_ops, erased_count}
 
 -- ---- lists of operations
 
@@ -54,6 +54,14 @@ changing_fits form was new h l =
     cond_both (same_attrs was new) [] (change_ops form was new) AllFit (λ _. tt)
     (λ _. cond_both (resets form was new) (ClearAttrs ∷ ChangeAttrs default_attrs new ∷ [])
     (ChangeAttrs was new ∷ []) AllFit (λ _. (tt, (((tt, tt), l), tt))) (λ _. ((h, l), tt)))
+
+back_fits : (form : Form) (r c : ℕ) → r < 65535 → c < 65535 → Fits (back_op form r c)
+back_fits Fixed r c h l = tt
+back_fits Portable r c h l = (h, l)
+
+erased_fits : (form : Form) (n : ℕ) → n < 2 ^ 16 → erased_count form n < 2 ^ 16
+erased_fits Fixed n h = omega arith
+erased_fits Portable n h = h
 
 erase_run_fits : (n : ℕ) (xs : List CellValue) → n < 2 ^ 16 → Fits (erase_run n xs)
 erase_run_fits n [] h = tt
@@ -161,18 +169,18 @@ pub record FitsLinked (j : Linked) : Type 0 where
   pub ops : AllFit j.ops
   pub attrs : FitsAttrs j.pen.attrs
 
-pub first_fits : (r : ℕ) (pen : Pen) (flag : Bool) (xs ys : List CellValue) →
+pub first_fits : (r : ℕ) (pen : Pen) (flag : Bool) (xs ys : List CellValue) → r < 65535 →
     FitsAttrs pen.attrs → AllByRecursion IsFit xs → FitsLinked (first_written r pen flag xs ys)
-first_fits r pen flag [] ys was fit = record { ops = tt; attrs = was }
-first_fits r pen flag (x ∷ xs) [] was fit = record { ops = tt; attrs = was }
-first_fits r pen flag (right_half ∷ xs) (y ∷ ys) was fit = record { ops = tt; attrs = was }
-first_fits r pen flag (blank a ∷ xs) (y ∷ ys) was fit = record {
+first_fits r pen flag [] ys h was fit = record { ops = tt; attrs = was }
+first_fits r pen flag (x ∷ xs) [] h was fit = record { ops = tt; attrs = was }
+first_fits r pen flag (right_half ∷ xs) (y ∷ ys) h was fit = record { ops = tt; attrs = was }
+first_fits r pen flag (blank a ∷ xs) (y ∷ ys) h was fit = record {
   ops =
-      fits_append (attr_ops_in pen.form pen.attrs a) (Print (0x20 ∷ []) ∷ Backspace ∷ EraseChars 1 ∷ [])
-      (changing_fits pen.form pen.attrs a was fit.0.1) (space_fits, (tt, (omega arith, tt)));
+      fits_append (attr_ops_in pen.form pen.attrs a) (Print (0x20 ∷ []) ∷ back_op pen.form r 0 ∷ EraseChars 1 ∷ [])
+      (changing_fits pen.form pen.attrs a was fit.0.1) (space_fits, (back_fits pen.form r 0 h (omega arith), (omega arith, tt)));
   attrs = fit.0.1;
 }
-first_fits r pen flag (glyph text wide a ∷ xs) (y ∷ ys) was fit = record {
+first_fits r pen flag (glyph text wide a ∷ xs) (y ∷ ys) h was fit = record {
   ops =
       fits_append (attr_ops_in pen.form pen.attrs a) (Print text ∷ [])
       (changing_fits pen.form pen.attrs a was fit.0.1) (printable_text text wide fit.0.0, tt);
@@ -180,13 +188,13 @@ first_fits r pen flag (glyph text wide a ∷ xs) (y ∷ ys) was fit = record {
 }
 
 linked_fits : (r : ℕ) (pen : Pen) (above : List CellValue) (on flag : Bool) (xs ys : List CellValue) →
-    r < 65535 → 0 < length above → length above < 2 ^ 16 → FitsAttrs pen.attrs →
+    r + 1 < 65535 → 0 < length above → length above < 2 ^ 16 → FitsAttrs pen.attrs →
     AllByRecursion IsFit above → AllByRecursion IsFit xs → FitsLinked (row_link r pen above on flag xs ys)
 unfolding row_link
 linked_fits r pen above on flag xs ys h some l was over fit =
     let w = after_last_glyph r pen above in
-    let one = after_fits r pen above h some l was over in
-    let two = first_fits (r + 1) w.pen flag xs ys one.attrs fit in
+    let one = after_fits r pen above (omega arith) some l was over in
+    let two = first_fits (r + 1) w.pen flag xs ys h one.attrs fit in
     cond_both (not on || (is_at pen r (length above) && starts_other xs ys))
     (ops_then_link w.ops (first_written (r + 1) w.pen flag xs ys)) (no_link pen flag) FitsLinked
     (λ _.
@@ -204,9 +212,10 @@ broken_fits r pen flag wanted cells h some l was fit =
     cond_both (flag && not wanted) (break_ops r pen cells) (no_ops pen flag) FitsWritten
     (λ _. record {
       ops =
-          fits_append (move_ops pen r (last_column cells)) (EraseChars 1 ∷ (attr_ops_in pen.form pen.attrs a ++ Print text ∷ []))
+          fits_append (move_ops pen r (last_column cells)) (EraseChars (erased_count pen.form (length cells - last_column cells))
+          ∷ (attr_ops_in pen.form pen.attrs a ++ Print text ∷ []))
           (going_fits pen r (last_column cells) h (last_low cells some l)) (
-            omega arith,
+            erased_fits pen.form (length cells - last_column cells) (omega arith),
             fits_append (attr_ops_in pen.form pen.attrs a) (Print text ∷ [])
                 (changing_fits pen.form pen.attrs a was last.1) (text_fits (last_glyph cells) last.0, tt),
           );
@@ -296,12 +305,12 @@ pending_fits None pen width rows r near lt h some l was fit =
     let b = attrs_of (at (row_or width rows r).cells (width - 1)) in
     fits_append (move_ops pen r (width - 1))
     (Print (0x20 ∷ [])
-    ∷ (attr_ops_in pen.form pen.attrs b ++ (SaveCursor ∷ Backspace ∷ EraseChars 1 ∷ RestoreCursor ∷ attr_ops_in pen.form b pen.attrs)))
+    ∷ (attr_ops_in pen.form pen.attrs b ++ (SaveCursor ∷ back_op pen.form r (width - 1) ∷ EraseChars 1 ∷ RestoreCursor ∷ attr_ops_in pen.form b pen.attrs)))
     (going_fits pen r (width - 1) (omega arith) (omega arith)) (
       space_fits,
-      fits_append (attr_ops_in pen.form pen.attrs b) (SaveCursor ∷ Backspace ∷ EraseChars 1 ∷ RestoreCursor ∷ attr_ops_in pen.form b pen.attrs)
+      fits_append (attr_ops_in pen.form pen.attrs b) (SaveCursor ∷ back_op pen.form r (width - 1) ∷ EraseChars 1 ∷ RestoreCursor ∷ attr_ops_in pen.form b pen.attrs)
           (changing_fits pen.form pen.attrs b was last.1)
-          (tt, (tt, (omega arith, (tt, changing_fits pen.form b pen.attrs last.1 was)))),
+          (tt, (back_fits pen.form r (width - 1) (omega arith) (omega arith), (omega arith, (tt, changing_fits pen.form b pen.attrs last.1 was)))),
     )
 pending_fits (Some i) pen width rows r near lt h some l was fit =
     let row = row_at_fits width rows i fit (omega arith) in

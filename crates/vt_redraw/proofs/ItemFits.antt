@@ -79,7 +79,7 @@ linked_fits r width x low small fit =
     let ys = blanks default_attrs (length x.cells) in
     let e = fit.columns in
     let first = first_written r (pen_at r 0 default_attrs) false x.cells ys in
-    let one = first_fits r (pen_at r 0 default_attrs) false x.cells ys plain fit.cells in
+    let one = first_fits r (pen_at r 0 default_attrs) false x.cells ys low plain fit.cells in
     fits_after first.ops (cells_written r 0 first.pen first.flag first.settled x.cells ys) one.ops
     (cells_fit r 0 first.pen first.flag first.settled x.cells ys low (omega arith) one.attrs fit.cells)
 

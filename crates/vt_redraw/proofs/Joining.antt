@@ -4,16 +4,16 @@ use Rattle.std.proofs.Common.{◌++◌, length, drop, Some, inl, inr, refl, sym,
 use Rattle.std.proofs.lemmas.Bool.{cond_both}
 use Rattle.std.proofs.lemmas.List.{length-append}
 use Rattle.vt_cells.specs.Cell.{CellValue, blank, glyph, right_half, default_blank, is_wide, is_right_half}
-use Rattle.vt_cells.specs.Op.{Op, Print, Backspace, EraseChars}
+use Rattle.vt_cells.specs.Op.{Op, Print, EraseChars}
 use Rattle.vt_cells.specs.Attrs.{Attrs}
 use Rattle.vt_rows.specs.Cells.{at, cells_after_cut}
 use Rattle.vt_rows.specs.Row.{RowValue}
 use Rattle.vt_grid.specs.Canvas.{Canvas}
 use Rattle.vt_cells.specs.Glyph.{glyph_columns}
-use Rattle.vt_redraw.specs.Script.{pen_at, pen_in, attr_ops_in}
+use Rattle.vt_redraw.specs.Script.{pen_at, pen_in, attr_ops_in, back_op}
 use Rattle.vt_redraw.specs.declared.form.Form.{Form}
 use Rattle.vt_redraw.specs.declared.pen.Pen.{Pen}
-use Rattle.vt_redraw.proofs.Steps.{Reads, Within, changing_draws}
+use Rattle.vt_redraw.proofs.Steps.{Reads, Within, changing_draws, back_draws}
 use Rattle.vt_redraw.specs.Script.{Linked, first_written, is_nil, is_torn, no_link, wrapped_after_glyph}
 use Rattle.vt_redraw.specs.Script.{after_last_glyph, is_at, last_column, ops_then_link, row_link, starts_other}
 use Rattle.vt_redraw.proofs.Halves.{Paired, paired_loose, loose_step, opened_paired, opened_twice}
@@ -22,7 +22,7 @@ use Rattle.vt_redraw.proofs.Edits.{row_of, mid, two, two_mid, orphan, chars_eras
 use Rattle.vt_redraw.proofs.Spots.{Spot, with_glyph, glyph_flag}
 use Rattle.vt_redraw.proofs.Texts.{Prints}
 use Rattle.vt_redraw.proofs.Printing.{no_tear}
-use Rattle.vt_redraw.proofs.Touched.{DrawsIn, in_then, in_to, quiet_in, changing_quiet, changes_at}
+use Rattle.vt_redraw.proofs.Touched.{DrawsIn, in_then, in_to, quiet_in, changing_quiet, changes_at, back_quiet}
 use Rattle.vt_redraw.proofs.TouchedTexts.{MayGlyph, print_in, print_in_wraps}
 use Rattle.vt_redraw.proofs.Lets.{Lets, torn_may}
 use Rattle.vt_redraw.proofs.Standing.{starts_none}
@@ -78,13 +78,13 @@ first_flag : (f n t : Bool) → (f && not ((n && true) || (t && false))) ≡ (f 
 first_flag f n t = grind (arith)
 
 -- With a wrap pending, a space is printed at the beginning of the next row and erased again.
-pub first_blank : (May : ℕ → ℕ → Type 0) (base : Canvas) (done below : List RowValue)
+pub first_blank : (May : ℕ → ℕ → Type 0) (form : Form) (base : Canvas) (done below : List RowValue)
     (y : CellValue) (ys : List CellValue) (flag : Bool) (r : ℕ) (a : Attrs) →
-    length done ≡ r → 0 < base.page.width → Paired (y ∷ ys) → Sound flag (y ∷ ys) → May r 0 →
-    DrawsIn May (Backspace ∷ EraseChars 1 ∷ [])
+    base.page.origin ≡ false → length done ≡ r → 0 < base.page.width → Paired (y ∷ ys) → Sound flag (y ∷ ys) → May r 0 →
+    DrawsIn May (back_op form r 0 ∷ EraseChars 1 ∷ [])
     (mid base done below (with_glyph [] (0x20 ∷ []) false a ys) (wrapped_after_glyph flag false (drop 1 ys)) (pen_at r 1 a))
     (mid base done below (blank a ∷ cells_after_cut (orphan false a) ys) (flag && not (is_nil ys)) (pen_at r 0 a))
-first_blank May base done below y ys flag r a e pos paired sound may =
+first_blank May form base done below y ys flag r a o e pos paired sound may =
     let row = λ (z : List CellValue). blank a ∷ z in
     let pen = pen_at r 0 a in
     let whole = opened_paired default_blank (y ∷ ys) paired in
@@ -93,8 +93,10 @@ first_blank May base done below y ys flag r a e pos paired sound may =
     let start = mid base done below spaced now (pen_at r 1 a) in
     let middle = mid base done below spaced now pen in
     let goal = mid base done below (row (cells_after_cut (orphan false a) ys)) (flag && not (is_nil ys)) pen in
-    in_then May (Backspace ∷ []) (EraseChars 1 ∷ []) start middle
-    goal (quiet_in May (Backspace ∷ []) start middle (refl, tt) refl)
+    let size = length-append done (row_of spaced now ∷ below) in
+    in_then May (back_op form r 0 ∷ []) (EraseChars 1 ∷ []) start middle
+    goal (quiet_in May (back_op form r 0 ∷ []) start middle (back_quiet form r 0)
+    (back_draws form base (done ++ row_of spaced now ∷ below) r 0 a o (omega arith) pos))
     (record {
       draws = chars_erased base done below [] spaced now r 0 0 a e refl (omega arith) tt
           ∙ (ap (λ (f : Bool). Some
@@ -105,7 +107,7 @@ first_blank May base done below y ys flag r a e pos paired sound may =
           (opened_twice default_blank (orphan false a) ys refl)
           ∙ ap (λ (f : Bool). Some (mid base done below (row (cells_after_cut (orphan false a) ys)) f pen))
           (first_kept y ys flag a whole sound)));
-      touches = erase_touches May middle 0 pos refl
+      touches = erase_touches May middle 0 1 (omega arith) refl
           (changes_at May base done below [] spaced now r 0 1 0 a e refl tt
           (λ k low high. let z : 0 ≡ k = omega arith in subst (May r) z may)
           (λ t. let n = not_right a ys in absurd (cc)));
@@ -143,20 +145,20 @@ glyph_sound y ys flag text wide a paired sound =
 -- With a wrap pending and the current attributes `b`, the first cell of a row is drawn.
 pub first_draws : (May : ℕ → ℕ → Type 0) (form : Form) (base : Canvas) (done below : List RowValue)
     (above xs ys : List CellValue) (on flag : Bool) (r height : ℕ) (b : Attrs) →
-    length done ≡ r → base.page.bottom + 1 ≡ height → r + suc (suc (length below)) ≡ height →
+    base.page.origin ≡ false → length done ≡ r → base.page.bottom + 1 ≡ height → r + suc (suc (length below)) ≡ height →
     length xs ≡ base.page.width → length ys ≡ base.page.width → 0 < base.page.width →
     ends above ≡ false → Paired xs → Paired ys → Sound flag ys → PrintsCells base.page.width xs →
     Lets May (r + 1) 0 xs ys → May (r + 1) 0 → (is_wide (at xs 0) ≡ true → May (r + 1) 1) →
     Joins May (first_written (r + 1) (pen_in form r base.page.width b) flag xs ys) base done below
     (two base done below above on ys flag (pen_at r base.page.width b)) above true xs ys height
-first_draws May form base done below above [] ys on flag r height b e
+first_draws May form base done below above [] ys on flag r height b origin e
     bottom rows hx hy pos full h k sound prints lets begin second = absurd (omega arith)
 first_draws May form base done below above (x ∷ xs) [] on flag r height b
-    e bottom rows hx hy pos full h k sound prints lets begin second = absurd (omega arith)
+    origin e bottom rows hx hy pos full h k sound prints lets begin second = absurd (omega arith)
 first_draws May form base done below above (right_half ∷ xs) (y ∷ ys) on flag r
-    height b e bottom rows hx hy pos full h k sound prints lets begin second = absurd h
+    height b origin e bottom rows hx hy pos full h k sound prints lets begin second = absurd h
 first_draws May form base done below above (glyph text false a ∷ xs) (y ∷ ys) on flag
-    r height b e bottom rows hx hy pos full h k sound prints lets begin second =
+    r height b origin e bottom rows hx hy pos full h k sound prints lets begin second =
     let now = wrapped_after_glyph flag false (drop 1 ys) in
     record {
       torn = orphan false a;
@@ -181,7 +183,7 @@ first_draws May form base done below above (glyph text false a ∷ xs) (y ∷ ys
       within = record { row = omega arith; col = omega arith };
     }
 first_draws May form base done below above (blank a ∷ xs) (y ∷ ys) on flag r
-    height b e bottom rows hx hy pos full h k sound prints lets begin second =
+    height b origin e bottom rows hx hy pos full h k sound prints lets begin second =
     let top = done ++ row_of above true ∷ [] in
     let n : length top ≡ r + 1 = let l = length-append done (row_of above true ∷ []) in omega arith in
     let goal = blank a ∷ cells_after_cut (orphan false a) ys in
@@ -192,7 +194,7 @@ first_draws May form base done below above (blank a ∷ xs) (y ∷ ys) on flag r
     record {
       torn = orphan false a;
       draws =
-          regrouped (attr_ops_in form b a) (Print (0x20 ∷ [])) (Backspace ∷ EraseChars 1 ∷ [])
+          regrouped (attr_ops_in form b a) (Print (0x20 ∷ [])) (back_op form (r + 1) 0 ∷ EraseChars 1 ∷ [])
           start spaced (two base done below above true goal now (pen_at (r + 1) 0 a))
           (first_glyph May form base done below above on y ys flag r b (0x20 ∷ []) false a
           e (omega arith) full k sound (omega arith) (space_prints base.page.width pos)
@@ -201,9 +203,9 @@ first_draws May form base done below above (blank a ∷ xs) (y ∷ ys) on flag r
             second = λ t. absurd (cc);
             torn = λ t. torn_may May (r + 1) 1 xs ys h lets.1 (omega arith) (no_tail xs ys (omega arith)) t;
           }))
-          (in_to May (Backspace ∷ EraseChars 1 ∷ []) spaced (mid base top below goal now (pen_at (r + 1) 0 a))
+          (in_to May (back_op form (r + 1) 0 ∷ EraseChars 1 ∷ []) spaced (mid base top below goal now (pen_at (r + 1) 0 a))
           (two base done below above true goal now (pen_at (r + 1) 0 a))
-          (first_blank May base top below y ys flag (r + 1) a n pos k sound begin)
+          (first_blank May form base top below y ys flag (r + 1) a origin n pos k sound begin)
           (sym (two_mid base done below above true goal now (pen_at (r + 1) 0 a))));
       ready = record {
         same = omega arith;
@@ -223,15 +225,15 @@ first_draws May form base done below above (blank a ∷ xs) (y ∷ ys) on flag r
         subst (λ (z : List Op). DrawsIn May z a c) (append_assoc ops (op ∷ []) more)
         (in_then May (ops ++ op ∷ []) more a b c h k)
 first_draws May form base done below above (glyph text true a ∷ []) (y ∷ ys) on flag
-    r height b e bottom rows hx hy pos full h k sound prints lets begin second = absurd h
+    r height b origin e bottom rows hx hy pos full h k sound prints lets begin second = absurd h
 first_draws May form base done below above (glyph text true a ∷ blank c ∷ xs) (y ∷ ys) on
-    flag r height b e bottom rows hx hy pos full h k sound prints lets begin second = absurd h
+    flag r height b origin e bottom rows hx hy pos full h k sound prints lets begin second = absurd h
 first_draws May form base done below above (glyph text true a ∷ glyph other wide c ∷ xs) (y ∷ ys)
-    on flag r height b e bottom rows hx hy pos full h k sound prints lets begin second = absurd h
+    on flag r height b origin e bottom rows hx hy pos full h k sound prints lets begin second = absurd h
 first_draws May form base done below above (glyph text true a ∷ right_half ∷ xs) (y ∷ []) on
-    flag r height b e bottom rows hx hy pos full h k sound prints lets begin second = absurd (omega arith)
+    flag r height b origin e bottom rows hx hy pos full h k sound prints lets begin second = absurd (omega arith)
 first_draws May form base done below above (glyph text true a ∷ right_half ∷ xs) (y ∷ y2 ∷ ys)
-    on flag r height b e bottom rows hx hy pos full h k sound prints lets begin second =
+    on flag r height b origin e bottom rows hx hy pos full h k sound prints lets begin second =
     let now = wrapped_after_glyph flag true ys in
     record {
       torn = orphan true a;
@@ -345,7 +347,7 @@ link_draws May base done below above xs ys on flag r height pen reads e
     (subst (λ (q : Pen). Joins May (first_written (r + 1) q flag xs ys) base
     done below (two base done below above on ys flag q) above true xs ys height)
     (sym goes.there)
-    (first_draws May behind.pen.form base done below above xs ys on flag r height behind.pen.attrs e
+    (first_draws May behind.pen.form base done below above xs ys on flag r height behind.pen.attrs reads.origin e
     reads.bottom rows hx hy reads.has_columns full h k sound prints may.0 may.1 may.2)))
     (λ (t : test ≡ false). no_join May base done below above xs ys on true flag pen height
     (stays_on on (is_at pen r (length above) && starts_other xs ys) t) (hx ∙ sym hy) h k sound within)

@@ -6,11 +6,11 @@ use Rattle.std.proofs.lemmas.List.{length-append, take-append-drop}
 use Rattle.vt_cells.specs.Cell.{CellValue, blank, glyph, right_half, default_blank, is_wide, text_of, attrs_of}
 use Rattle.vt_rows.specs.Cells.{at}
 use Rattle.vt_cells.specs.Op.{Print, EraseChars}
-use Rattle.vt_cells.specs.Attrs.{Attrs}
+use Rattle.vt_cells.specs.Attrs.{Attrs, default_attrs}
 use Rattle.vt_rows.specs.Row.{RowValue}
 use Rattle.vt_grid.specs.Canvas.{Canvas}
 use Rattle.vt_cells.specs.Glyph.{glyph_columns}
-use Rattle.vt_redraw.specs.Script.{pen_at, move_ops, pen_in, attr_ops_in}
+use Rattle.vt_redraw.specs.Script.{pen_at, move_ops, pen_in, attr_ops_in, erased_count}
 use Rattle.vt_redraw.specs.declared.pen.Pen.{Pen}
 use Rattle.vt_redraw.proofs.Steps.{Reads, Within, changing_draws}
 use Rattle.vt_redraw.specs.Script.{Scripted, no_ops, placed_op, cells_written, last_column}
@@ -27,6 +27,9 @@ use Rattle.vt_redraw.proofs.TouchedTexts.{print_in}
 use Rattle.vt_redraw.proofs.Lets.{Lets}
 use Rattle.vt_redraw.proofs.Standing.{row_nothing, row_equal}
 use Rattle.vt_redraw.proofs.Row.{cells_draw}
+use Rattle.vt_redraw.specs.declared.form.Form.{Form}
+use Rattle.vt_redraw.specs.declared.form.Form.TheVariants.{Fixed}
+use Rattle.vt_redraw.specs.declared.form.Form.TheVariants.{Portable}
 
 -- ---- the last glyph
 
@@ -217,42 +220,59 @@ going_after_draws May base done below xs flag r height pen reads e rows w h full
 
 -- ---- the break
 
+-- The second cell that is left after a wide glyph is erased.
+abbrev pub second_left : Form → Attrs → CellValue
+second_left Fixed a = default_blank
+second_left Portable a = blank a
+
 -- The blanks that are left after the last glyph is erased.
-abbrev pub blanked : Bool → Attrs → List CellValue
-blanked false a = blank a ∷ []
-blanked true a = blank a ∷ default_blank ∷ []
+abbrev pub blanked : Form → Bool → Attrs → List CellValue
+blanked form false a = blank a ∷ []
+blanked form true a = blank a ∷ second_left form a ∷ []
 
 falls_off : (flag : Bool) (pre : List CellValue) (y : CellValue) (ys : List CellValue) →
     ends (y ∷ ys) ≡ true → kept flag (pre ++ y ∷ ys) ≡ false
 falls_off flag pre y ys e = let k = ends_append pre y ys ∙ e in grind (arith, k)
 
-pub erase_touches : (May : ℕ → ℕ → Type 0) (canvas : Canvas) (c : ℕ) → c < canvas.page.width →
-    canvas.page.column ≡ c → Changes May c 1 canvas.page → Touches May (EraseChars 1 ∷ []) canvas
-erase_touches May canvas c lt e h =
-    let m : min 1 (canvas.page.width - canvas.page.column) ≡ 1 = omega arith in (
+pub erase_touches : (May : ℕ → ℕ → Type 0) (canvas : Canvas) (c n : ℕ) → c + n ≤ canvas.page.width →
+    canvas.page.column ≡ c → Changes May c n canvas.page → Touches May (EraseChars n ∷ []) canvas
+erase_touches May canvas c n fits e h =
+    let m : min n (canvas.page.width - canvas.page.column) ≡ n = omega arith in (
       λ _. subst (λ (n : ℕ). Changes May canvas.page.column n canvas.page)
-          (sym m) (subst (λ (k : ℕ). Changes May k 1 canvas.page) (sym e) h),
+          (sym m) (subst (λ (k : ℕ). Changes May k n canvas.page) (sym e) h),
       λ q f. tt,
     )
 
-pub erase_last : (May : ℕ → ℕ → Type 0) (base : Canvas) (done below : List RowValue)
-    (pre : List CellValue) (text : List ℕ) (wide : Bool) (b a : Attrs) (flag : Bool) (r : ℕ) →
-    length done ≡ r → length pre + glyph_columns wide ≡ base.page.width → Paired pre →
+erase_narrow : (May : ℕ → ℕ → Type 0) (base : Canvas) (done below : List RowValue)
+    (pre : List CellValue) (text : List ℕ) (b a : Attrs) (flag : Bool) (r : ℕ) →
+    length done ≡ r → length pre + 1 ≡ base.page.width → Paired pre →
     ((k : ℕ) → length pre ≤ k → k < base.page.width → May r k) →
     DrawsIn May (EraseChars 1 ∷ [])
-    (mid base done below (pre ++ glyph_cells text wide b) flag (pen_at r (length pre) a))
-    (mid base done below (pre ++ blanked wide a) false (pen_at r (length pre) a))
-erase_last May base done below pre text false b a flag r e w h may =
+    (mid base done below (pre ++ glyph text false b ∷ []) flag (pen_at r (length pre) a))
+    (mid base done below (pre ++ blank a ∷ []) false (pen_at r (length pre) a))
+erase_narrow May base done below pre text b a flag r e w h may =
     let start = mid base done below (pre ++ glyph text false b ∷ []) flag (pen_at r (length pre) a) in
     record {
       draws = chars_erased base done below pre (glyph text false b ∷ []) flag r (length pre) 0 a e refl (omega arith) h
           ∙ ap (λ (f : Bool). Some (mid base done below (pre ++ blank a ∷ []) f (pen_at r (length pre) a)))
           (falls_off flag pre (blank a) [] refl);
-      touches = erase_touches May start (length pre) (omega arith) refl
+      touches = erase_touches May start (length pre) 1 (omega arith) refl
           (changes_at May base done below pre (glyph text false b ∷ []) flag r (length pre) 1
           (length pre) a e refl h (λ k low high. may k low (omega arith)) (λ t. absurd (cc)));
     }
-erase_last May base done below pre text true b a flag r e w h may =
+
+pub erase_last : (May : ℕ → ℕ → Type 0) (form : Form) (base : Canvas) (done below : List RowValue)
+    (pre : List CellValue) (text : List ℕ) (wide : Bool) (b a : Attrs) (flag : Bool) (r : ℕ) →
+    length done ≡ r → length pre + glyph_columns wide ≡ base.page.width → Paired pre →
+    ((k : ℕ) → length pre ≤ k → k < base.page.width → May r k) →
+    DrawsIn May (EraseChars (erased_count form (glyph_columns wide)) ∷ [])
+    (mid base done below (pre ++ glyph_cells text wide b) flag (pen_at r (length pre) a))
+    (mid base done below (pre ++ blanked form wide a) false (pen_at r (length pre) a))
+erase_last May Fixed base done below pre text false b a flag r e w h may =
+    erase_narrow May base done below pre text b a flag r e w h may
+erase_last May Portable base done below pre text false b a flag r e w h may =
+    erase_narrow May base done below pre text b a flag r e w h may
+erase_last May Fixed base done below pre text true b a flag r e w h may =
     let start = mid base done below (pre ++ glyph text true b ∷ right_half ∷ []) flag (pen_at r (length pre) a) in
     record {
       draws =
@@ -261,18 +281,46 @@ erase_last May base done below pre text true b a flag r e w h may =
           ∙ ap (λ (f : Bool). Some
           (mid base done below (pre ++ blank a ∷ default_blank ∷ []) f (pen_at r (length pre) a)))
           (falls_off flag pre (blank a) (default_blank ∷ []) refl);
-      touches = erase_touches May start (length pre) (omega arith) refl
+      touches = erase_touches May start (length pre) 1 (omega arith) refl
           (changes_at May base done below pre (glyph text true b ∷ right_half ∷ []) flag r (length pre) 1 (length pre) a
           e refl h (λ k low high. may k low (omega arith)) (λ t. may (length pre + 1) (omega arith) (omega arith)));
     }
+erase_last May Portable base done below pre text true b a flag r e w h may =
+    let start = mid base done below (pre ++ glyph text true b ∷ right_half ∷ []) flag (pen_at r (length pre) a) in
+    record {
+      draws =
+          chars_erased base done below pre (glyph text true b ∷ right_half ∷ [])
+          flag r (length pre) 1 a e refl (omega arith) h
+          ∙ ap (λ (f : Bool). Some
+          (mid base done below (pre ++ blank a ∷ blank a ∷ []) f (pen_at r (length pre) a)))
+          (falls_off flag pre (blank a) (blank a ∷ []) refl);
+      touches = erase_touches May start (length pre) 2 (omega arith) refl
+          (changes_at May base done below pre (glyph text true b ∷ right_half ∷ []) flag r (length pre) 2 (length pre) a
+          e refl h (λ k low high. may k low (omega arith)) (λ t. absurd (cc)));
+    }
 
-pub print_bare : (May : ℕ → ℕ → Type 0) (base : Canvas) (done below : List RowValue)
+print_two : (May : ℕ → ℕ → Type 0) (base : Canvas) (done below : List RowValue)
+    (pre : List CellValue) (text : List ℕ) (b c a : Attrs) (r : ℕ) →
+    Prints base.page.width text true → length done ≡ r → length pre + 2 ≡ base.page.width →
+    Paired pre → ((k : ℕ) → length pre ≤ k → k < base.page.width → May r k) →
+    DrawsIn May (Print text ∷ []) (mid base done below (pre ++ blank b ∷ blank c ∷ []) false (pen_at r (length pre) a))
+    (mid base done below (pre ++ glyph_cells text true a) false (pen_at r (length pre + 2) a))
+print_two May base done below pre text b c a r prints e w h may =
+    print_in May base done below pre default_blank (blank b) (blank c ∷ []) false r (length pre) text
+    true a prints (record { row = e; col = refl; fits = omega arith; front = h; sound = λ t. absurd (cc) })
+    (record {
+      first = may (length pre) (omega arith) (omega arith);
+      second = λ _. may (length pre + 1) (omega arith) (omega arith);
+      torn = λ t. absurd (cc);
+    })
+
+pub print_bare : (May : ℕ → ℕ → Type 0) (form : Form) (base : Canvas) (done below : List RowValue)
     (pre : List CellValue) (text : List ℕ) (wide : Bool) (b a : Attrs) (r : ℕ) →
     Prints base.page.width text wide → length done ≡ r → length pre + glyph_columns wide ≡ base.page.width →
     Paired pre → ((k : ℕ) → length pre ≤ k → k < base.page.width → May r k) →
-    DrawsIn May (Print text ∷ []) (mid base done below (pre ++ blanked wide b) false (pen_at r (length pre) a))
+    DrawsIn May (Print text ∷ []) (mid base done below (pre ++ blanked form wide b) false (pen_at r (length pre) a))
     (mid base done below (pre ++ glyph_cells text wide a) false (pen_at r (length pre + glyph_columns wide) a))
-print_bare May base done below pre text false b a r prints e w h may =
+print_bare May form base done below pre text false b a r prints e w h may =
     print_in May base done below pre default_blank (blank b) [] false r (length pre) text false a
     prints (record { row = e; col = refl; fits = omega arith; front = h; sound = λ t. absurd (cc) })
     (record {
@@ -280,14 +328,10 @@ print_bare May base done below pre text false b a r prints e w h may =
       second = λ t. absurd (cc);
       torn = λ t. absurd (cc);
     })
-print_bare May base done below pre text true b a r prints e w h may =
-    print_in May base done below pre default_blank (blank b) (default_blank ∷ []) false r (length pre) text
-    true a prints (record { row = e; col = refl; fits = omega arith; front = h; sound = λ t. absurd (cc) })
-    (record {
-      first = may (length pre) (omega arith) (omega arith);
-      second = λ _. may (length pre + 1) (omega arith) (omega arith);
-      torn = λ t. absurd (cc);
-    })
+print_bare May Fixed base done below pre text true b a r prints e w h may =
+    print_two May base done below pre text b default_attrs a r prints e w h may
+print_bare May Portable base done below pre text true b a r prints e w h may =
+    print_two May base done below pre text b b a r prints e w h may
 
 -- The canvas after a break: the row is wrapped only if it must be.
 pub record Broke (May : ℕ → ℕ → Type 0) (w : Scripted) (base : Canvas) (done below : List RowValue)
@@ -307,21 +351,28 @@ breaking_draws May base done below xs flag wanted r height pen reads e rows w h 
   draws = last_cases
       (λ z k x. PrintsCells base.page.width z → length z ≡ base.page.width →
       ((j : ℕ) → k ≤ j → j < base.page.width → May r j) →
-      DrawsIn May (move_ops pen r k ++ (EraseChars 1 ∷ (attr_ops_in pen.form pen.attrs (attrs_of x) ++ Print (text_of x) ∷ [])))
+      DrawsIn May (move_ops pen r k
+      ++ (EraseChars (erased_count pen.form (length z - k))
+      ∷ (attr_ops_in pen.form pen.attrs (attrs_of x) ++ Print (text_of x) ∷ [])))
       (mid base done below z flag pen) (mid base done below z false (pen_at r (length z) (attrs_of x))))
       (λ pre text wide a front p size mays.
       let n = length_glyph pre text wide a in
       let one = some_columns wide in
       let row = pre ++ glyph_cells text wide a in
-      let gone = pre ++ blanked wide pen.attrs in
+      let gone = pre ++ blanked pen.form wide pen.attrs in
       let c = length pre in
+      let count : glyph_columns wide ≡ length row - c = omega (arith, n) in
       let goal = mid base done below row false (pen_at r (length row) a) in
-      in_then May (move_ops pen r c) (EraseChars 1 ∷ (attr_ops_in pen.form pen.attrs a ++ Print text ∷ []))
+      subst (λ (m : ℕ). DrawsIn May (move_ops pen r c
+      ++ (EraseChars (erased_count pen.form m) ∷ (attr_ops_in pen.form pen.attrs a ++ Print text ∷ [])))
+      (mid base done below row flag pen) goal) count
+      (in_then May (move_ops pen r c)
+      (EraseChars (erased_count pen.form (glyph_columns wide)) ∷ (attr_ops_in pen.form pen.attrs a ++ Print text ∷ []))
       (mid base done below row flag pen) (mid base done below row flag (pen_at r c pen.attrs)) goal
       (going_there May base done below row flag r c height pen reads e rows (omega arith) within)
-      (in_then May (EraseChars 1 ∷ []) (attr_ops_in pen.form pen.attrs a ++ Print text ∷ [])
+      (in_then May (EraseChars (erased_count pen.form (glyph_columns wide)) ∷ []) (attr_ops_in pen.form pen.attrs a ++ Print text ∷ [])
       (mid base done below row flag (pen_at r c pen.attrs)) (mid base done below gone false (pen_at r c pen.attrs)) goal
-      (erase_last May base done below pre text wide a pen.attrs flag r e (sym n ∙ size) front mays)
+      (erase_last May pen.form base done below pre text wide a pen.attrs flag r e (sym n ∙ size) front mays)
       (in_then May (attr_ops_in pen.form pen.attrs a) (Print text ∷ [])
       (mid base done below gone false (pen_at r c pen.attrs)) (mid base done below gone false (pen_at r c a)) goal
       (quiet_in May (attr_ops_in pen.form pen.attrs a) (mid base done below gone false (pen_at r c pen.attrs))
@@ -329,9 +380,9 @@ breaking_draws May base done below xs flag wanted r height pen reads e rows w h 
       (changing_draws pen.form base (done ++ row_of gone false ∷ below) (pen_at r c pen.attrs) a))
       (in_to May (Print text ∷ []) (mid base done below gone false (pen_at r c a))
       (mid base done below row false (pen_at r (c + glyph_columns wide) a)) goal
-      (print_bare May base done below pre text wide pen.attrs a r
+      (print_bare May pen.form base done below pre text wide pen.attrs a r
       (prints_last base.page.width pre text wide a p) e (sym n ∙ size) front mays)
-      (ap (λ (k : ℕ). mid base done below row false (pen_at r k a)) (sym n))))))
+      (ap (λ (k : ℕ). mid base done below row false (pen_at r k a)) (sym n)))))))
       xs h full prints w may;
   within = record { row = omega arith; col = omega arith };
   keeps = λ t. absurd (cc);

@@ -5,24 +5,24 @@ use Rattle.std.specs.Prelude.{if◌then◌else◌}
 use Rattle.std.proofs.lemmas.Bool.{cond_both}
 use Rattle.vt_cells.specs.Attrs.{default_attrs, same_attrs, same_bool, Attrs}
 use Rattle.vt_cells.specs.Cell.{CellValue, blank, glyph, right_half, attrs_of, text_of, same_cell}
-use Rattle.vt_cells.specs.Op.{Op, Hide, MoveTo, MoveRight, NextRow, LineFeed, Backspace, EraseChars, ClearAttrs}
+use Rattle.vt_cells.specs.Op.{Op, Hide, MoveTo, MoveRight, NextRow, LineFeed, EraseChars, ClearAttrs}
 use Rattle.vt_cells.specs.Op.{SaveCursor, RestoreCursor, ChangeAttrs, Print}
 use Rattle.vt_cells.specs.Glyph.{glyph_columns}
 use Rattle.vt_rows.specs.Cells.{at}
 use Rattle.vt_rows.specs.Row.{RowValue}
 use Rattle.vt_grid.specs.Page.{row_or}
 use Rattle.vt_redraw.specs.declared.form.Form.{Form}
-use Rattle.vt_redraw.specs.declared.form.Form.TheVariants.{Fixed}
+use Rattle.vt_redraw.specs.declared.form.Form.TheVariants.{Fixed, Portable}
 use Rattle.vt_redraw.specs.declared.pen.Pen.{Pen}
 use Rattle.vt_redraw.specs.Picture.{Picture}
-use Rattle.vt_redraw.specs.Script.{move_ops, attr_ops, blank_run, erase_run, no_ops, ops_then, placed_op}
+use Rattle.vt_redraw.specs.Script.{move_ops, attr_ops, blank_run, erase_run, no_ops, ops_then, placed_op, back_op}
 use Rattle.vt_redraw.specs.Script.{after_last_glyph, cells_written, is_at, last_column, last_glyph, pen_after, resets}
 use Rattle.vt_redraw.specs.Script.{Scripted, no_link, first_written, starts_other, ops_then_link, row_link, attr_ops_in}
 use Rattle.vt_redraw.specs.Script.{break_ops, row_break, wrapped_after_erasure, wrapped_after_glyph, pen_in}
 use Rattle.vt_redraw.specs.Redraw.{row_written, link_of, rows_below, rows_written, nearest, over_blank, under_last}
 use Rattle.vt_redraw.specs.Redraw.{blank_passed, pending_at, cursor_written, pen_of, cursor_visibility_ops, difference}
 use Rattle.vt_redraw.specs.Redraw.{blank_like, redraw, pending_alone, cursor_state, script_in, difference_in, redraw_in}
-use Rattle.vt_redraw.specs.Script.{change_ops}
+use Rattle.vt_redraw.specs.Script.{change_ops, erased_count}
 
 -- Whether the cursor has been saved after an operation, given whether it was saved before.
 abbrev pub saved_after : Bool → Op → Bool
@@ -119,13 +119,17 @@ after_safe r pen cells =
     (λ _. doing_safe pen r (last_column cells) (attrs_of (last_glyph cells)) (Print (text_of (last_glyph cells)))
     (λ s. (tt, tt)))
 
+space_safe : (form : Form) (r : ℕ) → IsSafe (Print (0x20 ∷ []) ∷ back_op form r 0 ∷ EraseChars 1 ∷ [])
+space_safe Fixed r s = (tt, (tt, (tt, tt)))
+space_safe Portable r s = (tt, (tt, (tt, tt)))
+
 first_safe : (r : ℕ) (pen : Pen) (flag : Bool) (xs ys : List CellValue) → IsSafe (first_written r pen flag xs ys).ops
 first_safe r pen flag [] ys = λ s. tt
 first_safe r pen flag (x ∷ xs) [] = λ s. tt
 first_safe r pen flag (right_half ∷ xs) (y ∷ ys) = λ s. tt
 first_safe r pen flag (blank a ∷ xs) (y ∷ ys) =
-    safe_append (attr_ops_in pen.form pen.attrs a) (Print (0x20 ∷ []) ∷ Backspace ∷ EraseChars 1 ∷ []) (changing_safe pen.form pen.attrs a)
-    (λ s. (tt, (tt, (tt, tt))))
+    safe_append (attr_ops_in pen.form pen.attrs a) (Print (0x20 ∷ []) ∷ back_op pen.form r 0 ∷ EraseChars 1 ∷ [])
+    (changing_safe pen.form pen.attrs a) (space_safe pen.form r)
 first_safe r pen flag (glyph text wide a ∷ xs) (y ∷ ys) =
     safe_append (attr_ops_in pen.form pen.attrs a) (Print text ∷ []) (changing_safe pen.form pen.attrs a) (λ s. (tt, tt))
 
@@ -148,7 +152,7 @@ broken_safe r pen flag wanted cells =
     let text = text_of (last_glyph cells) in
     let again : List Op = attr_ops_in pen.form pen.attrs a ++ Print text ∷ [] in
     cond_both (flag && not wanted) (break_ops r pen cells) (no_ops pen flag) SafeWritten
-    (λ _. safe_append (move_ops pen r (last_column cells)) (EraseChars 1 ∷ again)
+    (λ _. safe_append (move_ops pen r (last_column cells)) (EraseChars (erased_count pen.form (length cells - last_column cells)) ∷ again)
     (going_safe pen r (last_column cells))
     (λ s. (tt, safe_append (attr_ops_in pen.form pen.attrs a) (Print text ∷ []) (changing_safe pen.form pen.attrs a) (λ t. (tt, tt)) s)))
     (λ _. λ s. tt)
@@ -187,12 +191,17 @@ rows_safe pen (x ∷ xs) (y ∷ ys) =
 
 -- ---- the cursor
 
-passed_safe : (form : Form) (was attrs : Attrs) → IsSafe (blank_passed form was attrs)
-passed_safe form was attrs s = (
+erased_safe : (form : Form) (r c : ℕ) (was attrs : Attrs) →
+    IsSafe (SaveCursor ∷ back_op form r c ∷ EraseChars 1 ∷ RestoreCursor ∷ attr_ops_in form attrs was)
+erased_safe Fixed r c was attrs s = (tt, (tt, (tt, (refl, changing_safe Fixed attrs was true))))
+erased_safe Portable r c was attrs s = (tt, (tt, (tt, (refl, changing_safe Portable attrs was true))))
+
+passed_safe : (form : Form) (r c : ℕ) (was attrs : Attrs) → IsSafe (blank_passed form r c was attrs)
+passed_safe form r c was attrs s = (
   tt,
   safe_append (attr_ops_in form was attrs)
-      (SaveCursor ∷ Backspace ∷ EraseChars 1 ∷ RestoreCursor ∷ attr_ops_in form attrs was) (changing_safe form was attrs)
-      (λ t. (tt, (tt, (tt, (refl, changing_safe form attrs was true))))) s,
+      (SaveCursor ∷ back_op form r c ∷ EraseChars 1 ∷ RestoreCursor ∷ attr_ops_in form attrs was)
+      (changing_safe form was attrs) (erased_safe form r c was attrs) s,
 )
 
 pending_safe : (found : Option ℕ) (pen : Pen) (width : ℕ) (rows : List RowValue) (r : ℕ) →
@@ -200,8 +209,8 @@ pending_safe : (found : Option ℕ) (pen : Pen) (width : ℕ) (rows : List RowVa
 unfolding over_blank under_last
 pending_safe None pen width rows r =
     let b = attrs_of (at (row_or width rows r).cells (width - 1)) in
-    safe_append (move_ops pen r (width - 1)) (blank_passed pen.form pen.attrs b) (going_safe pen r (width - 1))
-    (passed_safe pen.form pen.attrs b)
+    safe_append (move_ops pen r (width - 1)) (blank_passed pen.form r (width - 1) pen.attrs b) (going_safe pen r (width - 1))
+    (passed_safe pen.form r (width - 1) pen.attrs b)
 pending_safe (Some i) pen width rows r =
     let w = after_last_glyph i pen (row_or width rows i).cells in
     safe_append w.ops (attr_ops_in pen.form w.pen.attrs pen.attrs ++ replicate (r - i) LineFeed)
@@ -248,7 +257,7 @@ pub redraw_safe : (self : Picture) → IsSafe (redraw self)
 redraw_safe = redraw_safe_in Fixed
 
 alone_safe : (found : Option ℕ) (width : ℕ) (rows : List RowValue) (r : ℕ) → IsSafe (pending_alone found width rows r)
-alone_safe None width rows r s = (tt, passed_safe Fixed default_attrs (attrs_of (at (row_or width rows r).cells (width - 1))) s)
+alone_safe None width rows r s = (tt, passed_safe Fixed r (width - 1) default_attrs (attrs_of (at (row_or width rows r).cells (width - 1))) s)
 alone_safe (Some i) width rows r s =
     let cells = (row_or width rows i).cells in
     let a = attrs_of (last_glyph cells) in (

@@ -9,10 +9,12 @@ use Rattle.vt_rows.specs.Row.{RowValue}
 use Rattle.vt_grid.specs.Moves.{line_feed, moved}
 use Rattle.vt_grid.specs.declared.grid.moves.CursorMove.TheVariants.{Right}
 use Rattle.vt_grid.specs.Canvas.{Canvas, and_then, canvas_after_op, drawn_all}
-use Rattle.vt_redraw.specs.Script.{pen_at, move_ops, attr_ops_in, change_ops, resets}
+use Rattle.vt_redraw.specs.Script.{pen_at, move_ops, attr_ops_in, change_ops, resets, back_op}
 use Rattle.vt_redraw.specs.declared.form.Form.{Form}
 use Rattle.vt_redraw.specs.declared.pen.Pen.{Pen}
 use Rattle.vt_grid.proofs.Drawing.{Draws}
+use Rattle.vt_redraw.specs.declared.form.Form.TheVariants.{Fixed}
+use Rattle.vt_redraw.specs.declared.form.Form.TheVariants.{Portable}
 
 -- The canvas with the given rows, and with the cursor and attributes of the pen.
 abbrev pub at_pen : Canvas → List RowValue → Pen → Canvas
@@ -68,6 +70,14 @@ move_to_draws base rows pen r c o h l =
     let e : min r (length rows - 1) ≡ r = omega arith in
     let f : min c (base.page.width - 1) ≡ c = omega arith in
     rw (o, e, f) refl
+
+-- The cursor moves one column to the left.
+pub back_draws : (form : Form) (base : Canvas) (rows : List RowValue) (r c : ℕ) (attrs : Attrs) →
+    base.page.origin ≡ false → r < length rows → c < base.page.width →
+    Draws (back_op form r c ∷ []) (at_pen base rows (pen_at r (c + 1) attrs)) (at_pen base rows (pen_at r c attrs))
+back_draws Fixed base rows r c attrs o h l =
+    let e : c + 1 - 1 ≡ c = omega arith in ap (λ (k : ℕ). Some (at_pen base rows (pen_at r k attrs))) e
+back_draws Portable base rows r c attrs o h l = move_to_draws base rows (pen_at r (c + 1) attrs) r c o h l
 
 pub going_draws : (base : Canvas) (rows : List RowValue) (pen : Pen) (r c height width : ℕ) →
     Reads base height width → length rows ≡ height →

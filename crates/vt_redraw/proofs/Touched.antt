@@ -13,13 +13,15 @@ use Rattle.vt_cells.specs.Op.{EraseRest, EraseChars, SaveCursor, RestoreCursor, 
 use Rattle.vt_rows.specs.Cells.{at}
 use Rattle.vt_rows.specs.Row.{RowValue}
 use Rattle.vt_grid.specs.Canvas.{Canvas, and_then, drawn_all}
-use Rattle.vt_redraw.specs.Script.{pen_at, move_ops, attr_ops_in, change_ops, resets}
+use Rattle.vt_redraw.specs.Script.{pen_at, move_ops, attr_ops_in, change_ops, resets, back_op}
 use Rattle.vt_redraw.specs.declared.form.Form.{Form}
 use Rattle.vt_redraw.specs.declared.pen.Pen.{Pen}
 use Rattle.vt_grid.proofs.Drawing.{Draws, draws_then}
 use Rattle.vt_redraw.specs.Touching.{is_touched, Changes, OpTouches, Touches}
 use Rattle.vt_redraw.proofs.Halves.{Paired}
 use Rattle.vt_redraw.proofs.Edits.{mid, cursor_row_is}
+use Rattle.vt_redraw.specs.declared.form.Form.TheVariants.{Fixed}
+use Rattle.vt_redraw.specs.declared.form.Form.TheVariants.{Portable}
 
 -- The operations turn canvas a into canvas b, and touch only positions for which `May` holds.
 pub record DrawsIn (May : ℕ → ℕ → Type 0) (ops : List Op) (a b : Canvas) : Type 0 where
@@ -113,6 +115,10 @@ changing_quiet form was new =
     cond_both (same_attrs was new) [] (change_ops form was new) AllQuiet (λ _. tt)
     (λ _. cond_both (resets form was new) (ClearAttrs ∷ ChangeAttrs default_attrs new ∷ [])
     (ChangeAttrs was new ∷ []) AllQuiet (λ _. (refl, (refl, tt))) (λ _. (refl, tt)))
+
+pub back_quiet : (form : Form) (r c : ℕ) → AllQuiet (back_op form r c ∷ [])
+back_quiet Fixed r c = (refl, tt)
+back_quiet Portable r c = (refl, tt)
 
 pub feeds_quiet : (n : ℕ) → AllQuiet (replicate n LineFeed)
 feeds_quiet zero = tt

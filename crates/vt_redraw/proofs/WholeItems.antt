@@ -108,15 +108,15 @@ record Begins (j : Linked) (base : Canvas) (done below : List RowValue)
 
 begin_draws : (base : Canvas) (done below : List RowValue)
     (xs ys : List CellValue) (flag : Bool) (r height : ℕ) (b : Attrs) →
-    length done ≡ r → r + suc (length below) ≡ height →
+    base.page.origin ≡ false → length done ≡ r → r + suc (length below) ≡ height →
     length xs ≡ base.page.width → length ys ≡ base.page.width → 0 < base.page.width →
     Paired xs → Paired ys → Sound flag ys → PrintsCells base.page.width xs →
     Begins (first_written r (pen_at r 0 b) flag xs ys) base done
     below (mid base done below ys flag (pen_at r 0 b)) xs ys height
-begin_draws base done below [] ys flag r height b e rows hx hy pos h k sound prints = absurd (omega arith)
-begin_draws base done below (x ∷ xs) [] flag r height b e rows hx hy pos h k sound prints = absurd (omega arith)
-begin_draws base done below (right_half ∷ xs) (y ∷ ys) flag r height b e rows hx hy pos h k sound prints = absurd h
-begin_draws base done below (glyph text wide a ∷ xs) (y ∷ ys) flag r height b e rows hx hy pos h k sound prints =
+begin_draws base done below [] ys flag r height b origin e rows hx hy pos h k sound prints = absurd (omega arith)
+begin_draws base done below (x ∷ xs) [] flag r height b origin e rows hx hy pos h k sound prints = absurd (omega arith)
+begin_draws base done below (right_half ∷ xs) (y ∷ ys) flag r height b origin e rows hx hy pos h k sound prints = absurd h
+begin_draws base done below (glyph text wide a ∷ xs) (y ∷ ys) flag r height b origin e rows hx hy pos h k sound prints =
     by_width wide xs ys h hx hy k sound prints
   where
     printed : (wide : Bool) (ys : List CellValue) → glyph_columns wide ≤ base.page.width →
@@ -177,7 +177,7 @@ begin_draws base done below (glyph text wide a ∷ xs) (y ∷ ys) flag r height 
       };
       within = record { row = omega arith; col = omega arith };
     }
-begin_draws base done below (blank a ∷ xs) (y ∷ ys) flag r height b e rows hx hy pos h k sound prints =
+begin_draws base done below (blank a ∷ xs) (y ∷ ys) flag r height b origin e rows hx hy pos h k sound prints =
     let whole = opened_paired default_blank (y ∷ ys) k in
     let d0 = mid base done below (y ∷ ys) flag (pen_at r 0 b) in
     let d1 = mid base done below (y ∷ ys) flag (pen_at r 0 a) in
@@ -197,7 +197,7 @@ begin_draws base done below (blank a ∷ xs) (y ∷ ys) flag r height b e rows h
           whole
           (print_in Any base done below [] default_blank y ys flag r 0 (0x20 ∷ []) false a
           (space_prints base.page.width pos) spot (record { first = tt; second = λ _. tt; torn = λ _. tt })))
-          (first_blank Any base done below y ys flag r a e pos k sound tt));
+          (first_blank Any Fixed base done below y ys flag r a origin e pos k sound tt));
       ready = record {
         same = omega arith;
         tail = no_tail (blank a ∷ xs) (y ∷ ys) (hx ∙ sym hy);
@@ -244,7 +244,7 @@ linked_item_draws base done below xs r height reads e rows hx h prints =
     let hy = length-replicate (length xs) default_blank ∙ hx in
     rest_draws (first_written r (pen_at r 0 default_attrs) false xs ys) base done below
     (mid base done below ys false (pen_at r 0 default_attrs)) xs ys r height reads e rows hx hy prints
-    (begin_draws base done below xs ys false r height default_attrs e rows hx hy
+    (begin_draws base done below xs ys false r height default_attrs reads.origin e rows hx hy
     reads.has_columns h (paired_blanks (length xs) default_attrs) (λ t. absurd (cc)) prints)
 
 -- The output for the first cell doesn't depend on the pen's position.
@@ -276,7 +276,7 @@ linked_item_wraps base done below above xs on r height reads e rows full hx h pr
     let alike = first_alike (r + 1) (pen_at r base.page.width default_attrs)
     (pen_at (r + 1) 0 default_attrs) false xs ys refl refl (omega arith) (omega arith) h in
     let joins = first_draws Any Fixed base done below above xs ys on false r height default_attrs
-    e reads.bottom rows hx hy pos full h (paired_blanks (length xs) default_attrs)
+    reads.origin e reads.bottom rows hx hy pos full h (paired_blanks (length xs) default_attrs)
     (λ t. absurd (cc)) prints (lets_any (r + 1) 0 xs ys) tt (λ _. tt) in
     let begins : Begins j base top below start xs ys height = record {
       torn = joins.torn;

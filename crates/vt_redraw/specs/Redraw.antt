@@ -4,11 +4,11 @@ use Rattle.std.specs.Prelude.{◌++◌, length, replicate, Option, Some, None, i
 use Rattle.vt_cells.specs.Attrs.{default_attrs, same_bool, Attrs}
 use Rattle.vt_cells.specs.Cell.{CellValue, attrs_of, text_of}
 use Rattle.vt_cells.specs.Op.{Op, Hide, ClearAttrs, MoveTo, EraseBelow, EraseChars}
-use Rattle.vt_cells.specs.Op.{LineFeed, Backspace, SaveCursor, RestoreCursor, Print}
+use Rattle.vt_cells.specs.Op.{LineFeed, SaveCursor, RestoreCursor, Print}
 use Rattle.vt_rows.specs.Cells.{at, ends_blank}
 use Rattle.vt_rows.specs.Row.{RowValue, blank_row}
 use Rattle.vt_grid.specs.Page.{row_or}
-use Rattle.vt_redraw.specs.Script.{pen_in, move_ops, attr_ops, attr_ops_in}
+use Rattle.vt_redraw.specs.Script.{pen_in, move_ops, attr_ops, attr_ops_in, back_op}
 use Rattle.vt_redraw.specs.declared.form.Form.{Form}
 use Rattle.vt_redraw.specs.declared.form.Form.TheVariants.{Fixed}
 use Rattle.vt_redraw.specs.declared.pen.Pen.{Pen}
@@ -55,18 +55,19 @@ abbrev pub nearest : ℕ → List RowValue → ℕ → Option ℕ
 nearest width rows zero = if ends_blank (row_or width rows 0).cells then None else Some 0
 nearest width rows (suc n) = if ends_blank (row_or width rows (suc n)).cells then nearest width rows n else Some (suc n)
 
--- The operations that make a wrap pending when the cursor is in the last column and the column holds a blank with the
--- attributes `attrs`: a space is printed and then erased. The pen has the attributes `was` before and afterward.
-abbrev pub blank_passed : Form → (was attrs : Attrs) → List Op
-blank_passed form was attrs =
+-- The operations that make a wrap pending when the cursor is in the last column, `c`, of row `r` and the column holds a
+-- blank with the attributes `attrs`: a space is printed and then erased. The pen has the attributes `was` before and
+-- afterward.
+abbrev pub blank_passed : Form → (r c : ℕ) → (was attrs : Attrs) → List Op
+blank_passed form r c was attrs =
     Print (0x20 ∷ [])
     ∷ (attr_ops_in form was attrs
-    ++ (SaveCursor ∷ Backspace ∷ EraseChars 1 ∷ RestoreCursor ∷ attr_ops_in form attrs was))
+    ++ (SaveCursor ∷ back_op form r c ∷ EraseChars 1 ∷ RestoreCursor ∷ attr_ops_in form attrs was))
 
 -- The operations that make a wrap pending at the end of row `r`, whose last column is a blank with the given
 -- attributes.
 unfoldable pub over_blank : Pen → (r width : ℕ) → Attrs → List Op
-over_blank pen r width attrs = move_ops pen r (width - 1) ++ blank_passed pen.form pen.attrs attrs
+over_blank pen r width attrs = move_ops pen r (width - 1) ++ blank_passed pen.form r (width - 1) pen.attrs attrs
 
 -- The operations that make a wrap pending at the end of row `r` by printing the last glyph of row `i` and then moving
 -- down to row `r`.
@@ -136,7 +137,8 @@ redraw self = redraw_in Fixed self
 
 abbrev pub pending_alone : Option ℕ → ℕ → List RowValue → ℕ → List Op
 pending_alone None width rows r =
-    MoveTo r (width - 1) ∷ blank_passed Fixed default_attrs (attrs_of (at (row_or width rows r).cells (width - 1)))
+    MoveTo r (width - 1)
+    ∷ blank_passed Fixed r (width - 1) default_attrs (attrs_of (at (row_or width rows r).cells (width - 1)))
 pending_alone (Some i) width rows r =
     let cells = (row_or width rows i).cells in
     MoveTo i (last_column cells)

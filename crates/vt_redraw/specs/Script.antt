@@ -7,7 +7,8 @@ use Rattle.vt_cells.specs.Cell.{CellValue, blank, glyph, right_half, is_glyph}
 use Rattle.vt_cells.specs.Cell.{is_right_half, same_cell, text_of, attrs_of}
 use Rattle.std.specs.List.{prefix_len}
 use Rattle.vt_cells.specs.Attrs.{same_attrs, default_attrs, is_bold, is_dim, Attrs}
-use Rattle.vt_cells.specs.Op.{Op, Backspace, ChangeAttrs, ClearAttrs, EraseChars, EraseRest, Print, cursor_move_ops}
+use Rattle.vt_cells.specs.Op.{Op, Backspace, ChangeAttrs, ClearAttrs, EraseChars, EraseRest, MoveTo, Print}
+use Rattle.vt_cells.specs.Op.{cursor_move_ops}
 use Rattle.vt_rows.specs.Cells.{at}
 use Rattle.vt_redraw.specs.declared.form.Form.{Form}
 use Rattle.vt_redraw.specs.declared.form.Form.TheVariants.{Fixed, Portable}
@@ -62,6 +63,18 @@ blank_run attrs cells = prefix_len (is_blank_of attrs) cells
 abbrev pub erase_run : ℕ → List CellValue → Op
 erase_run n [] = EraseRest
 erase_run n (x ∷ xs) = EraseChars n
+
+-- The operation that moves the cursor one column to the left, to column `c` of row `r`. After a glyph in the last column,
+-- terminals disagree on where the cursor is, so the portable form moves to the position itself.
+abbrev pub back_op : Form → (r c : ℕ) → Op
+back_op Fixed r c = Backspace
+back_op Portable r c = MoveTo r c
+
+-- The number of columns that are erased of a glyph that takes `n` columns. Some terminals leave a blank if half of a wide
+-- glyph is erased and the glyph is then printed again, so the portable form erases all of its columns.
+abbrev pub erased_count : Form → ℕ → ℕ
+erased_count Fixed n = 1
+erased_count Portable n = n
 
 -- A list of operations, the terminal's cursor and attributes after these operations, and whether the terminal's current
 -- row is then wrapped.
@@ -166,7 +179,7 @@ first_written r pen flag [] ys = no_link pen flag
 first_written r pen flag (x ∷ xs) [] = no_link pen flag
 first_written r pen flag (right_half ∷ xs) (y ∷ ys) = no_link pen flag
 first_written r pen flag (blank a ∷ xs) (y ∷ ys) = record {
-  ops = attr_ops_in pen.form pen.attrs a ++ Print (0x20 ∷ []) ∷ Backspace ∷ EraseChars 1 ∷ [];
+  ops = attr_ops_in pen.form pen.attrs a ++ Print (0x20 ∷ []) ∷ back_op pen.form r 0 ∷ EraseChars 1 ∷ [];
   pen = pen_in pen.form r 0 a;
   flag = flag && not (is_nil ys);
   settled = 1;
@@ -206,7 +219,8 @@ abbrev pub break_ops : ℕ → Pen → List CellValue → Scripted
 break_ops r pen cells = record {
   ops =
       move_ops pen r (last_column cells)
-      ++ (EraseChars 1 ∷ (attr_ops_in pen.form pen.attrs (attrs_of (last_glyph cells)) ++ Print (text_of (last_glyph cells)) ∷ []));
+      ++ (EraseChars (erased_count pen.form (length cells - last_column cells))
+      ∷ (attr_ops_in pen.form pen.attrs (attrs_of (last_glyph cells)) ++ Print (text_of (last_glyph cells)) ∷ []));
   pen = pen_after pen.form r cells;
   flag = false;
 }

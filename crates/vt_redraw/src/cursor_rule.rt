@@ -15,10 +15,10 @@ ghost use Rattle.vt_redraw.specs.Redraw.{blank_passed, cursor_written, nearest, 
 ghost use Rattle.vt_redraw.specs.Redraw.{cursor_alone, pending_alone, pending_at, under_last};
 
 use crate::form::Form;
-use crate::links::write_last;
+use crate::links::{write_back, write_last};
 use crate::pen::{Pen, write_change, write_change_in};
 use crate::view::View;
-use vt_cells::term::{Backspace, BufWrite, EraseChar, LineFeed, MoveTo, RestoreCursor, SaveCursor};
+use vt_cells::term::{BufWrite, EraseChar, LineFeed, MoveTo, RestoreCursor, SaveCursor};
 use vt_cells::{Attrs, Pos, Sink, cell};
 
 /// Returns the nearest row of the picture, at or above `row`, whose last column is not blank.
@@ -54,7 +54,7 @@ pub fn write_feeds<S: Sink>(sink: &mut S, count: u16) -> Result<(), S::Error>
 
 /// Writes the sequences that leave a wrap pending in a row whose last column is a blank with
 /// attributes `attrs`. The sequences print a space in the last column, which leaves a wrap pending,
-/// and erase the space without canceling the wrap. The cursor must be on the last column. The
+/// and erase the space without canceling the wrap. The cursor must be at `pos`, on the last column. The
 /// terminal has the attributes `was` both before and afterward.
 ///
 /// # Errors
@@ -63,15 +63,17 @@ pub fn write_feeds<S: Sink>(sink: &mut S, count: u16) -> Result<(), S::Error>
 pub fn write_passed<S: Sink>(
     sink: &mut S,
     form: Form,
+    pos: Pos,
     was: Attrs,
     attrs: Attrs,
 ) -> Result<(), S::Error>
-    ensures { OnOk result (S.text sink.new ≡ S.text sink.old ++ bytes_of_all (blank_passed form was attrs)) }
+    ensures { OnOk result (S.text sink.new
+        ≡ S.text sink.old ++ bytes_of_all (blank_passed form pos.row pos.col was attrs)) }
 {
     sink.write_str(" ")?;
     write_change_in(sink, form, was, attrs)?;
     SaveCursor.write_buf(sink)?;
-    Backspace.write_buf(sink)?;
+    write_back(sink, form, pos)?;
     EraseChar { count: 1 }.write_buf(sink)?;
     RestoreCursor.write_buf(sink)?;
     write_change_in(sink, form, attrs, was)
@@ -115,8 +117,9 @@ fn write_over_blank<S: Sink>(
     let col = view.cols() - 1;
     let attrs = cell::attrs(view.row(row).cell(col));
     let mut last = pen;
-    last.move_to(sink, Pos { row, col })?;
-    write_passed(sink, pen.form, pen.attrs, attrs)
+    let pos = Pos { row, col };
+    last.move_to(sink, pos)?;
+    write_passed(sink, pen.form, pos, pen.attrs, attrs)
 }
 
 /// Writes the sequences that leave a wrap pending at the end of row `row`.
@@ -190,7 +193,7 @@ fn write_over_blank_alone<S: Sink>(sink: &mut S, view: &View<'_>, row: u16) -> R
     let attrs = cell::attrs(view.row(row).cell(col));
     let pos = Pos { row, col };
     MoveTo { pos }.write_buf(sink)?;
-    write_passed(sink, Form::Fixed, Attrs::new(), attrs)
+    write_passed(sink, Form::Fixed, pos, Attrs::new(), attrs)
 }
 
 /// Writes the sequences that leave a wrap pending at the end of row `row`. The

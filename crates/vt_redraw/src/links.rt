@@ -4,19 +4,20 @@
 //! A *link* makes the terminal wrap from one row into the next, so that the upper row becomes
 //! wrapped. A *break* prints the end of a wrapped row again, so that the row is no longer wrapped.
 
-ghost use Rattle.std.specs.Prelude.{◌≡◌, ◌<◌, ◌&&◌, ◌||◌, [], ◌∷◌, not, nat_le, true, IfOk, OnOk, length};
+ghost use Rattle.std.specs.Prelude.{◌≡◌, ◌++◌, ◌-◌, ◌≤◌, ◌<◌, ◌&&◌, ◌||◌, [], ◌∷◌, not, nat_le, true, IfOk, OnOk, length};
 ghost use Rattle.vt_cells.specs.Cell.{is_blank, is_glyph};
-ghost use Rattle.vt_cells.specs.Op.{bytes_of_all};
+ghost use Rattle.vt_cells.specs.Op.{bytes_of, bytes_of_all};
 ghost use Rattle.vt_rows.specs.Cells.{IsPaired};
 ghost use Rattle.vt_redraw.specs.Internals.{AppendsOrStops, IsRowOver, IsRowUnder, LinksOrStops, Writes, break_of};
 ghost use Rattle.vt_redraw.specs.Redraw.{link_of};
 ghost use Rattle.vt_redraw.specs.Refusals.{RefusedOnlyIfSome};
-ghost use Rattle.vt_redraw.specs.Script.{after_last_glyph, first_written, is_at, starts_other};
+ghost use Rattle.vt_redraw.specs.Script.{after_last_glyph, back_op, erased_count, first_written, is_at, starts_other};
 
 use crate::cells::{columns, print_at, wrapped_after_glyph, write_text};
+use crate::form::Form;
 use crate::pen::Pen;
 use crate::picture_row::PictureRow;
-use vt_cells::term::{Backspace, BufWrite, EraseChar};
+use vt_cells::term::{Backspace, BufWrite, EraseChar, MoveTo};
 use vt_cells::{Cell, Pos, Sink, cell};
 
 /// The state of a row after a *link*, that is, output that makes the terminal wrap into the row
@@ -59,6 +60,31 @@ pub fn write_last<S: Sink>(
     Ok(())
 }
 
+/// Writes the sequence that moves the cursor one column to the left, to position `pos`. If a wrap is
+/// pending, terminals disagree on where the cursor is, so the portable form moves to the position
+/// itself.
+pub fn write_back<S: Sink>(sink: &mut S, form: Form, pos: Pos) -> Result<(), S::Error>
+    ensures text { OnOk result (S.text sink.new ≡ S.text sink.old ++ bytes_of (back_op form pos.row pos.col)) }
+    ensures nonempty { RefusedOnlyIfSome result (bytes_of (back_op form pos.row pos.col)) }
+{
+    match form {
+        Form::Fixed => Backspace.write_buf(sink),
+        Form::Portable => MoveTo { pos }.write_buf(sink),
+    }
+}
+
+/// Returns the number of columns to erase of the glyph that begins in column `col` and ends the row:
+/// one in the fixed form, and all columns of the glyph in the portable form.
+fn erased_columns(form: Form, cells: &PictureRow<'_>, col: u16) -> u16
+    requires { col ≤ length cells.now.cells }
+    ensures { result ≡ erased_count form (length cells.now.cells - col) }
+{
+    match form {
+        Form::Fixed => 1,
+        Form::Portable => cells.cols() - col,
+    }
+}
+
 /// Writes the blank `cell` in the first column of a row while a wrap is pending in the row above.
 /// Prints a space, which makes the terminal wrap into the row, and then erases the space. Returns
 /// the state of the row afterward.
@@ -77,7 +103,7 @@ fn write_first_blank<S: Sink>(
 {
     pen.change_attrs(sink, cell::attrs(cell))?;
     sink.write_str(" ")?;
-    Backspace.write_buf(sink)?;
+    write_back(sink, pen.form, Pos { row, col: 0 })?;
     EraseChar { count: 1 }.write_buf(sink)?;
     pen.row = row;
     pen.col = 0;
@@ -250,7 +276,8 @@ pub fn write_break<S: Sink>(
     let col = cells.last_col();
     let cell = cells.cell(col);
     pen.move_to(sink, Pos { row, col })?;
-    EraseChar { count: 1 }.write_buf(sink)?;
+    let count = erased_columns(pen.form, cells, col);
+    EraseChar { count }.write_buf(sink)?;
     pen.change_attrs(sink, cell::attrs(cell))?;
     write_text(sink, cell.contents())?;
     pen.col = cells.cols();
