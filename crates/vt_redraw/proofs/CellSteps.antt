@@ -126,7 +126,7 @@ run_first a xs = cond-true (same_attrs a a) (1 + blank_run a xs) 0 (same_attrs-i
 run_here : (r c : ℕ) (pen : Pen) (flag : Bool) (a : Attrs) (xs : List CellValue) (y : CellValue) (ys : List CellValue) →
     same_cell (blank a) y ≡ false →
     cells_written r c pen flag 0 (blank a ∷ xs) (y ∷ ys)
-    ≡ ops_then (placed_op pen r c a (erase_run (suc (blank_run a xs)) (drop (blank_run a xs) ys)))
+    ≡ ops_then (placed_op pen r c a (erase_run pen.form (suc (blank_run a xs)) (drop (blank_run a xs) ys)))
     (cells_written r (c + suc (blank_run a xs)) (pen_in pen.form r c a)
     (wrapped_after_erasure flag (drop (blank_run a xs) ys)) 0 (drop (blank_run a xs) xs) (drop (blank_run a xs) ys))
 unfolding cells_written
@@ -134,7 +134,7 @@ run_here r c pen flag a xs y ys h =
     let n = blank_run a xs in
     let f = wrapped_after_erasure flag (drop n ys) in
     cond-false (same_cell (blank a) y) _ _ h
-    ∙ ap (ops_then (placed_op pen r c a (erase_run (suc n) (drop n ys))))
+    ∙ ap (ops_then (placed_op pen r c a (erase_run pen.form (suc n) (drop n ys))))
     (settled_passed r (c + 1) (pen_in pen.form r c a) f n xs ys
     ∙ ap (λ (k : ℕ). cells_written r k (pen_in pen.form r c a) f 0 (drop n xs) (drop n ys)) (omega arith))
 
@@ -147,13 +147,13 @@ run_erased : (r c : ℕ) (pen : Pen) (flag : Bool) (x : CellValue)
     (xs : List CellValue) (y : CellValue) (ys : List CellValue) (n : ℕ) →
     (is_right_half x || same_cell x y) ≡ false → is_blank x ≡ true → n ≡ blank_run (attrs_of x) (x ∷ xs) →
     cells_written r c pen flag 0 (x ∷ xs) (y ∷ ys)
-    ≡ ops_then (placed_op pen r c (attrs_of x) (erase_run n (drop n (y ∷ ys))))
+    ≡ ops_then (placed_op pen r c (attrs_of x) (erase_run pen.form n (drop n (y ∷ ys))))
     (cells_written r (c + n) (pen_in pen.form r c (attrs_of x))
     (wrapped_after_erasure flag (drop n (y ∷ ys))) 0 (drop n (x ∷ xs)) (drop n (y ∷ ys)))
 run_erased r c pen flag (blank a) xs y ys n h b count =
     let e : suc (blank_run a xs) ≡ n = sym (count ∙ run_first a xs) in
     run_here r c pen flag a xs y ys h
-    ∙ ap (λ (m : ℕ). ops_then (placed_op pen r c a (erase_run m (drop m (y ∷ ys))))
+    ∙ ap (λ (m : ℕ). ops_then (placed_op pen r c a (erase_run pen.form m (drop m (y ∷ ys))))
     (cells_written r (c + m) (pen_in pen.form r c a) (wrapped_after_erasure flag (drop m (y ∷ ys)))
     0 (drop m (blank a ∷ xs)) (drop m (y ∷ ys))))
     e
@@ -259,19 +259,19 @@ pub next_run : (r c n : ℕ) (pen next : Pen) (flag then : Bool)
     c < length xs → length xs ≤ length ys →
     (is_right_half (at xs c) || same_cell (at xs c) (at ys c)) ≡ false →
     is_blank (at xs c) ≡ true → a ≡ attrs_of (at xs c) → n ≡ blank_run a (drop c xs) →
-    longer ≡ text ++ bytes_of_all (placed_op pen r c a (erase_run n (drop (c + n) ys))) → next ≡ pen_in pen.form r c a →
+    longer ≡ text ++ bytes_of_all (placed_op pen r c a (erase_run pen.form n (drop (c + n) ys))) → next ≡ pen_in pen.form r c a →
     then ≡ wrapped_after_erasure flag (drop (c + n) ys) →
     Leads longer (cells_from r (c + n) next then xs ys) text (cells_from r c pen flag xs ys)
 next_run r c n pen next flag then xs ys a text longer h le other b same count told pens flags =
     let x = at xs c in
-    let ops = λ (zs : List CellValue). placed_op pen r c a (erase_run n zs) in
+    let ops = λ (zs : List CellValue). placed_op pen r c a (erase_run pen.form n zs) in
     let counted : n ≡ blank_run (attrs_of x) (x ∷ drop (c + 1) xs) =
     count ∙ (ap (blank_run a) (from_column xs c h) ∙ ap (λ (z : Attrs). blank_run z (x ∷ drop (c + 1) xs)) same) in
     leads_after text longer (ops (drop (c + n) ys))
     (cells_from r (c + n) next then xs ys) (cells_from r c pen flag xs ys) told
     (at_column r c pen flag xs ys h le
     ∙ (run_erased r c pen flag x (drop (c + 1) xs) (at ys c) (drop (c + 1) ys) n other b counted
-    ∙ (ap (λ (z : Attrs). ops_then (placed_op pen r c z (erase_run n (drop n (at ys c ∷ drop (c + 1) ys))))
+    ∙ (ap (λ (z : Attrs). ops_then (placed_op pen r c z (erase_run pen.form n (drop n (at ys c ∷ drop (c + 1) ys))))
     (cells_written r (c + n) (pen_in pen.form r c z) (wrapped_after_erasure flag (drop n (at ys c ∷ drop (c + 1) ys)))
     0 (drop n (x ∷ drop (c + 1) xs)) (drop n (at ys c ∷ drop (c + 1) ys))))
     (sym same)
@@ -403,13 +403,13 @@ begin_same r c pen flag xs ys text e =
 begun_erased : (r c m : ℕ) (pen : Pen) (flag : Bool) (more : List CellValue) (y : CellValue) (under : List CellValue) →
     m ≡ blank_run default_attrs (default_blank ∷ more) →
     cells_written r c pen flag 0 (default_blank ∷ more) (right_half ∷ under)
-    ≡ ops_then (placed_op pen r c default_attrs (erase_run m (drop m (y ∷ under))))
+    ≡ ops_then (placed_op pen r c default_attrs (erase_run pen.form m (drop m (y ∷ under))))
     (cells_written r (c + m) (pen_in pen.form r c default_attrs) (wrapped_after_erasure flag (drop m (y ∷ under)))
     0 (drop m (right_half ∷ more)) (drop m (y ∷ under)))
 unfolding same_cell
 begun_erased r c m pen flag more y under e =
     subst (λ (j : ℕ). cells_written r c pen flag 0 (default_blank ∷ more) (right_half ∷ under)
-    ≡ ops_then (placed_op pen r c default_attrs (erase_run j (drop j (y ∷ under))))
+    ≡ ops_then (placed_op pen r c default_attrs (erase_run pen.form j (drop j (y ∷ under))))
     (cells_written r (c + j) (pen_in pen.form r c default_attrs) (wrapped_after_erasure flag (drop j (y ∷ under)))
     0 (drop j (right_half ∷ more)) (drop j (y ∷ under))))
     (sym (e ∙ run_first default_attrs more))
@@ -420,7 +420,7 @@ one_erased : (r c m : ℕ) (pen : Pen) (flag : Bool) (x : CellValue)
     (more : List CellValue) (y : CellValue) (under : List CellValue) →
     is_right_half x ≡ true → is_right_half y ≡ false → m ≡ blank_run default_attrs (default_blank ∷ more) →
     cells_written r c pen flag 0 (with_whole_start (x ∷ more)) (with_whole_start_over (x ∷ more) (y ∷ under))
-    ≡ ops_then (placed_op pen r c default_attrs (erase_run m (drop m (y ∷ under))))
+    ≡ ops_then (placed_op pen r c default_attrs (erase_run pen.form m (drop m (y ∷ under))))
     (cells_written r (c + m) (pen_in pen.form r c default_attrs)
     (wrapped_after_erasure flag (drop m (y ∷ under))) 0 (drop m (x ∷ more)) (drop m (y ∷ under)))
 one_erased r c m pen flag right_half more (blank b) under e f k = begun_erased r c m pen flag more (blank b) under k
@@ -434,12 +434,12 @@ one_erased r c m pen flag (glyph text wide a) more y under e f k = absurd cc
 pub half_erased : (r c n m : ℕ) (pen next : Pen) (flag then : Bool) (xs ys : List CellValue) (text longer : List ℕ) →
     c < length xs → length xs ≤ length ys → is_right_half (at xs c) ≡ true → is_right_half (at ys c) ≡ false →
     n ≡ blank_run default_attrs (drop (c + 1) xs) → m ≡ n + 1 →
-    longer ≡ text ++ bytes_of_all (placed_op pen r c default_attrs (erase_run m (drop (c + m) ys))) →
+    longer ≡ text ++ bytes_of_all (placed_op pen r c default_attrs (erase_run pen.form m (drop (c + m) ys))) →
     next ≡ pen_in pen.form r c default_attrs → then ≡ wrapped_after_erasure flag (drop (c + m) ys) →
     Leads longer (cells_from r (c + m) next then xs ys) text
     (cells_written r c pen flag 0 (with_whole_start (drop c xs)) (with_whole_start_over (drop c xs) (drop c ys)))
 half_erased r c n m pen next flag then xs ys text longer h le e f count more told pens flags =
-    let ops = λ (zs : List CellValue). placed_op pen r c default_attrs (erase_run m zs) in
+    let ops = λ (zs : List CellValue). placed_op pen r c default_attrs (erase_run pen.form m zs) in
     let x = at xs c in
     let y = at ys c in
     let rest = drop (c + 1) xs in

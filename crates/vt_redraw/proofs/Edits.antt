@@ -20,6 +20,7 @@ use Rattle.vt_grid.proofs.Drawing.{Draws}
 use Rattle.vt_redraw.proofs.Steps.{at_pen}
 use Rattle.vt_redraw.proofs.Halves.{Paired, put_at}
 use Rattle.vt_redraw.proofs.Flags.{ends, ends_is, kept}
+use Rattle.vt_redraw.specs.declared.form.Form.TheVariants.{Fixed}
 
 abbrev pub row_of : List CellValue → Bool → RowValue
 row_of cells flag = record { cells = cells; wrapped = flag }
@@ -129,7 +130,7 @@ rest_erased base done below pre rest flag r c n attrs e l fits h =
 pub run_erased : (base : Canvas) (done below : List RowValue)
     (pre rest more : List CellValue) (flag : Bool) (r c n : ℕ) (attrs : Attrs) →
     length done ≡ r → length pre ≡ c → c + (suc n + length more) ≡ base.page.width → Paired pre →
-    Draws (erase_run (suc n) more ∷ []) (mid base done below (pre ++ rest) flag (pen_at r c attrs))
+    Draws (erase_run Fixed (suc n) more ∷ []) (mid base done below (pre ++ rest) flag (pen_at r c attrs))
     (mid base done below (pre ++ (blanks attrs (suc n) ++ cells_after_cut default_blank (drop (suc n) rest)))
     (kept flag (pre ++ (blanks attrs (suc n) ++ cells_after_cut default_blank (drop (suc n) rest)))) (pen_at r c attrs))
 run_erased base done below pre rest [] flag r c n attrs e l fits h =

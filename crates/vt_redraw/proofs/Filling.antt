@@ -19,7 +19,8 @@ use Rattle.vt_rows.specs.Row.{RowValue}
 use Rattle.vt_grid.specs.Page.{row_or}
 use Rattle.vt_redraw.specs.Redraw.{nearest}
 use Rattle.vt_redraw.specs.Internals.{cells_filled_to, is_split, kept_len, cell_past_cut}
-use Rattle.vt_redraw.specs.Script.{is_nil, is_torn, erase_run, starts_other}
+use Rattle.vt_redraw.specs.Script.{is_nil, is_torn, erase_run, starts_other, run_count}
+use Rattle.vt_redraw.specs.declared.form.Form.{Form}
 
 -- Column k is the last column and has a continuation cell exactly if the cells from column k on are a single
 -- continuation cell.
@@ -50,11 +51,11 @@ nil_at (x ∷ xs) (suc k) h =
     nil_at xs k (omega arith) ∙ e
 
 -- An erasure that doesn't reach the end of the row is written with a count.
-pub erase_run_counted : (count end : ℕ) (cells : List CellValue) →
-    end < length cells → erase_run count (drop end cells) ≡ EraseChars count
-erase_run_counted count end [] h = absurd (omega arith)
-erase_run_counted count zero (x ∷ xs) h = refl
-erase_run_counted count (suc end) (x ∷ xs) h = erase_run_counted count end xs (omega arith)
+pub erase_run_counted : (form : Form) (count end : ℕ) (cells : List CellValue) →
+    end < length cells → erase_run form count (drop end cells) ≡ EraseChars (run_count form count (at cells end))
+erase_run_counted form count end [] h = absurd (omega arith)
+erase_run_counted form count zero (x ∷ xs) h = refl
+erase_run_counted form count (suc end) (x ∷ xs) h = erase_run_counted form count end xs (omega arith)
 
 pub resized_columns : (cols : ℕ) (cells : List CellValue) → length (cells_after_resize cols cells) ≡ cols
 resized_columns cols cells = length-resized cols cells

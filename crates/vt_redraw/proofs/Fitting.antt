@@ -1,18 +1,18 @@
 -- Each operation of a redraw or a difference has only numbers and text that are read back unchanged.
 use Rattle.std.proofs.Common.{◌≡◌, ℕ, zero, suc, ◌+◌, ◌-◌, ◌<◌, ◌≤◌, ◌^◌, ◌==◌, ◌&&◌, ◌||◌, nat_lt, Bool, true, false}
-use Rattle.std.proofs.Common.{not, List, [], ◌∷◌, ◌++◌, length, drop, replicate, Option, Some, None, refl, arith}
+use Rattle.std.proofs.Common.{not, List, [], ◌∷◌, ◌++◌, length, drop, replicate, Option, Some, None, refl, arith, subst, ◌∙◌}
 use Rattle.std.specs.Prelude.{All, if◌then◌else◌}
 use Rattle.std.specs.List.{AllByRecursion}
 use Rattle.std.proofs.lemmas.Bool.{cond_both, ltb-true}
 use Rattle.std.proofs.lemmas.List.Elements.{recursion_from_All}
 use Rattle.vt_cells.specs.Attrs.{default_attrs, same_attrs, same_bool, Attrs}
-use Rattle.vt_cells.specs.Cell.{CellValue, blank, glyph, right_half, IsCell}
+use Rattle.vt_cells.specs.Cell.{CellValue, blank, glyph, right_half, IsCell, default_blank}
 use Rattle.vt_cells.specs.Cell.{attrs_of, text_of, is_right_half, same_cell}
 use Rattle.vt_cells.proofs.Glyphs.{IsGlyphText-space}
 use Rattle.vt_cells.specs.Op.{Op, Hide, MoveTo, MoveRight, NextRow, LineFeed, Backspace, EraseChars, ClearAttrs}
 use Rattle.vt_cells.specs.Op.{SaveCursor, RestoreCursor, ChangeAttrs, Print, FitsAttrs}
 use Rattle.vt_rows.specs.Cells.{at, ends_blank}
-use Rattle.vt_rows.specs.Row.{RowValue, IsRow}
+use Rattle.vt_rows.specs.Row.{RowValue, IsRow, blank_row}
 use Rattle.vt_grid.specs.Page.{row_or}
 use Rattle.vt_redraw.specs.Fits.{Fits, IsDrawnText}
 use Rattle.vt_cells.specs.Glyph.{glyph_columns}
@@ -30,6 +30,11 @@ use Rattle.vt_redraw.specs.Redraw.{row_written, link_of, rows_below, rows_writte
 use Rattle.vt_redraw.specs.Redraw.{under_last, pending_at, cursor_written, pen_of, cursor_visibility_ops, difference_in}
 use Rattle.vt_redraw.specs.Redraw.{difference, blank_like, redraw, pending_alone, cursor_state, redraw_in}
 use Rattle.vt_redraw.specs.Script.{change_ops, erased_count}
+use Rattle.std.proofs.lemmas.List.{length-replicate}
+use Rattle.vt_redraw.proofs.Forms.{link_form}
+use Rattle.vt_redraw.proofs.Forms.{row_form}
+use Rattle.std.proofs.Common.{sym}
+use Rattle.std.proofs.lemmas.List.{length-drop}
 
 -- ---- lists of operations
 
@@ -63,9 +68,38 @@ erased_fits : (form : Form) (n : ℕ) → n < 2 ^ 16 → erased_count form n < 2
 erased_fits Fixed n h = omega arith
 erased_fits Portable n h = h
 
-erase_run_fits : (n : ℕ) (xs : List CellValue) → n < 2 ^ 16 → Fits (erase_run n xs)
-erase_run_fits n [] h = tt
-erase_run_fits n (x ∷ xs) h = h
+-- The columns that the portable form counts fit in 16 bits.
+abbrev pub IsCounted : Form → ℕ → Type 0
+IsCounted Fixed n = Unit {0}
+IsCounted Portable n = n < 2 ^ 16
+
+pub counted : (form : Form) (n : ℕ) → n < 2 ^ 16 → IsCounted form n
+counted Fixed n h = tt
+counted Portable n h = h
+
+counted_le : (form : Form) (m n : ℕ) → m ≤ n → IsCounted form n → IsCounted form m
+counted_le Fixed m n le h = tt
+counted_le Portable m n le h = omega arith
+
+erase_count_fits : (form : Form) (n : ℕ) (xs : List CellValue) → n < 2 ^ 16 →
+    IsCounted form (n + length xs) → Fits (erase_run form n xs)
+erase_count_fits form n [] h short = tt
+erase_count_fits Fixed n (x ∷ xs) h short = h
+erase_count_fits Portable n (x ∷ xs) h short =
+    cond_both (is_right_half x) (n + 1) n (λ (k : ℕ). k < 2 ^ 16) (λ _. omega (arith, short)) (λ _. h)
+
+-- The count of a run of `n` more blanks fits, if the columns from the first blank on are counted.
+erase_run_fits : (form : Form) (n : ℕ) (ys : List CellValue) → suc n < 2 ^ 16 → IsCounted form (suc (length ys)) →
+    Fits (erase_run form (suc n) (drop n ys))
+erase_run_fits form zero ys h short =
+    erase_count_fits form 1 ys h (counted_le form (1 + length ys) (suc (length ys)) (omega arith) short)
+erase_run_fits form (suc n) [] h short = tt
+erase_run_fits form (suc n) (y ∷ ys) h short = by_end (drop n ys) (length-drop n ys) where
+  by_end : (zs : List CellValue) → length zs ≡ length ys - n → Fits (erase_run form (suc (suc n)) zs)
+  by_end [] e = tt
+  by_end (z ∷ zs) e =
+      erase_count_fits form (suc (suc n)) (z ∷ zs) h
+      (counted_le form (suc (suc n) + suc (length zs)) (suc (suc (length ys))) (omega (arith, e)) short)
 
 doing_fits : (pen : Pen) (r c : ℕ) (attrs : Attrs) (op : Op) → r < 65535 → c < 65535 →
     FitsAttrs pen.attrs → FitsAttrs attrs → Fits op → AllFit (placed_op pen r c attrs op)
@@ -108,37 +142,39 @@ pub fits_after : (ops : List Op) (w : Scripted) → AllFit ops → FitsWritten w
 fits_after ops w h k = record { ops = fits_append ops w.ops h k.ops; attrs = k.attrs }
 
 pub cells_fit : (r c : ℕ) (pen : Pen) (flag : Bool) (k : ℕ) (xs ys : List CellValue) →
-    r < 65535 → c + length xs < 2 ^ 16 → FitsAttrs pen.attrs →
+    r < 65535 → c + length xs < 2 ^ 16 → IsCounted pen.form (length ys) → FitsAttrs pen.attrs →
     AllByRecursion IsFit xs → FitsWritten (cells_written r c pen flag k xs ys)
 unfolding cells_written
-cells_fit r c pen flag k [] ys h l was fit = record { ops = tt; attrs = was }
-cells_fit r c pen flag k (x ∷ xs) [] h l was fit = record { ops = tt; attrs = was }
-cells_fit r c pen flag (suc k) (x ∷ xs) (y ∷ ys) h l was fit =
-    cells_fit r (c + 1) pen flag k xs ys h (omega arith) was fit.1
-cells_fit r c pen flag zero (right_half ∷ xs) (y ∷ ys) h l was fit =
-    cells_fit r (c + 1) pen flag zero xs ys h (omega arith) was fit.1
-cells_fit r c pen flag zero (blank a ∷ xs) (y ∷ ys) h l was fit =
+cells_fit r c pen flag k [] ys h l short was fit = record { ops = tt; attrs = was }
+cells_fit r c pen flag k (x ∷ xs) [] h l short was fit = record { ops = tt; attrs = was }
+cells_fit r c pen flag (suc k) (x ∷ xs) (y ∷ ys) h l short was fit =
+    cells_fit r (c + 1) pen flag k xs ys h (omega arith) (counted_le pen.form (length ys) _ (omega arith) short) was fit.1
+cells_fit r c pen flag zero (right_half ∷ xs) (y ∷ ys) h l short was fit =
+    cells_fit r (c + 1) pen flag zero xs ys h (omega arith) (counted_le pen.form (length ys) _ (omega arith) short) was fit.1
+cells_fit r c pen flag zero (blank a ∷ xs) (y ∷ ys) h l short was fit =
+    let less = counted_le pen.form (length ys) (suc (length ys)) (omega arith) short in
     let n = blank_run a xs in
     let bound = run_bound a xs in
-    let op = erase_run (suc n) (drop n ys) in
+    let op = erase_run pen.form (suc n) (drop n ys) in
     let rest = cells_written r (c + 1) (pen_in pen.form r c a) (wrapped_after_erasure flag (drop n ys)) n xs ys in
     cond_both (same_cell (blank a) y) (cells_written r (c + 1) pen flag zero xs ys)
     (ops_then (placed_op pen r c a op) rest) FitsWritten
-    (λ _. cells_fit r (c + 1) pen flag zero xs ys h (omega arith) was fit.1)
+    (λ _. cells_fit r (c + 1) pen flag zero xs ys h (omega arith) less was fit.1)
     (λ _. fits_after (placed_op pen r c a op) rest
-    (doing_fits pen r c a op h (omega arith) was fit.0.1 (erase_run_fits (suc n) (drop n ys) (omega arith)))
-    (cells_fit r (c + 1) (pen_in pen.form r c a) (wrapped_after_erasure flag (drop n ys)) n xs ys h (omega arith) fit.0.1 fit.1))
-cells_fit r c pen flag zero (glyph text wide a ∷ xs) (y ∷ ys) h l was fit =
+    (doing_fits pen r c a op h (omega arith) was fit.0.1 (erase_run_fits pen.form n ys (omega arith) short))
+    (cells_fit r (c + 1) (pen_in pen.form r c a) (wrapped_after_erasure flag (drop n ys)) n xs ys h (omega arith) less fit.0.1 fit.1))
+cells_fit r c pen flag zero (glyph text wide a ∷ xs) (y ∷ ys) h l short was fit =
+    let less = counted_le pen.form (length ys) (suc (length ys)) (omega arith) short in
     let k = glyph_columns wide - 1 in
     let next = pen_in pen.form r (c + glyph_columns wide) a in
     let now = wrapped_after_glyph flag wide (drop 1 ys) in
     let rest = cells_written r (c + 1) next now k xs ys in
     cond_both (same_cell (glyph text wide a) y) (cells_written r (c + 1) pen flag k xs ys)
     (ops_then (placed_op pen r c a (Print text)) rest) FitsWritten
-    (λ _. cells_fit r (c + 1) pen flag k xs ys h (omega arith) was fit.1)
+    (λ _. cells_fit r (c + 1) pen flag k xs ys h (omega arith) less was fit.1)
     (λ _. fits_after (placed_op pen r c a (Print text)) rest
     (doing_fits pen r c a (Print text) h (omega arith) was fit.0.1 (printable_text text wide fit.0.0))
-    (cells_fit r (c + 1) next now k xs ys h (omega arith) fit.0.1 fit.1))
+    (cells_fit r (c + 1) next now k xs ys h (omega arith) less fit.0.1 fit.1))
 
 -- ---- the last glyph, the link and the break
 
@@ -230,23 +266,27 @@ pub record IsFitRow (width : ℕ) (row : RowValue) : Type 0 where
   pub cells : AllByRecursion IsFit row.cells
 
 row_fits : (r k width : ℕ) (pen : Pen) (flag : Bool) (x : RowValue) (ys : List CellValue) → r < 65535 → 0 < width →
-    width < 2 ^ 16 → FitsAttrs pen.attrs → IsFitRow width x → FitsWritten (row_written r k pen flag x ys)
+    width < 2 ^ 16 → IsCounted pen.form (length ys) → FitsAttrs pen.attrs → IsFitRow width x → FitsWritten (row_written r k pen flag x ys)
 unfolding row_written
-row_fits r k width pen flag x ys h some l was fit =
+row_fits r k width pen flag x ys h some l short was fit =
     let columns = fit.columns in
     let w = cells_written r 0 pen flag k x.cells ys in
-    let one = cells_fit r 0 pen flag k x.cells ys h (omega arith) was fit.cells in
+    let one = cells_fit r 0 pen flag k x.cells ys h (omega arith) short was fit.cells in
     fits_after w.ops (row_break r w.pen w.flag x.wrapped x.cells) one.ops
     (broken_fits r w.pen w.flag x.wrapped x.cells h (omega arith) (omega arith) one.attrs fit.cells)
+
+-- The columns of the row fit in 16 bits, if the portable form counts them.
+abbrev pub IsCountedRow : Form → RowValue → Type 0
+IsCountedRow form row = IsCounted form (length row.cells)
 
 below_fit : (r width : ℕ) (pen : Pen) (above : RowValue) (on : Bool) (xs ys : List RowValue) →
     r + suc (length xs) < 2 ^ 16 → 0 < width → width < 2 ^ 16 →
     FitsAttrs pen.attrs → IsFitRow width above → AllByRecursion (IsFitRow width) xs →
-    FitsWritten (rows_below r pen above on xs ys)
+    AllByRecursion (IsCountedRow pen.form) ys → FitsWritten (rows_below r pen above on xs ys)
 unfolding rows_below
-below_fit r width pen above on [] ys h some l was over fit = record { ops = tt; attrs = was }
-below_fit r width pen above on (x ∷ xs) [] h some l was over fit = record { ops = tt; attrs = was }
-below_fit r width pen above on (x ∷ xs) (y ∷ ys) h some l was over fit =
+below_fit r width pen above on [] ys h some l was over fit short = record { ops = tt; attrs = was }
+below_fit r width pen above on (x ∷ xs) [] h some l was over fit short = record { ops = tt; attrs = was }
+below_fit r width pen above on (x ∷ xs) (y ∷ ys) h some l was over fit short =
     let columns = over.columns in
     let link = link_of r pen above on x y in
     let row = row_written (r + 1) link.settled link.pen link.flag x y.cells in
@@ -255,21 +295,28 @@ below_fit r width pen above on (x ∷ xs) (y ∷ ys) h some l was over fit =
     (λ _. linked_fits r pen above.cells on y.wrapped x.cells y.cells
     (omega arith) (omega arith) (omega arith) was over.cells fit.0.cells)
     (λ _. record { ops = tt; attrs = was }) in
-    let two = row_fits (r + 1) link.settled width link.pen link.flag x y.cells (omega arith) some l one.attrs fit.0 in
+    let linked : link.pen.form ≡ pen.form = link_form r pen above on x y in
+    let kept : row.pen.form ≡ pen.form =
+    row_form (r + 1) link.settled link.pen link.flag x y.cells ∙ linked in
+    let two = row_fits (r + 1) link.settled width link.pen link.flag x y.cells (omega arith) some l
+    (subst (λ (f : Form). IsCounted f (length y.cells)) (sym linked) short.0) one.attrs fit.0 in
     fits_after (link.ops ++ row.ops) (rows_below (r + 1) row.pen x row.flag xs ys)
     (fits_append link.ops row.ops one.ops two.ops)
-    (below_fit (r + 1) width row.pen x row.flag xs ys (omega arith) some l two.attrs fit.0 fit.1)
+    (below_fit (r + 1) width row.pen x row.flag xs ys (omega arith) some l two.attrs fit.0 fit.1
+    (subst (λ (f : Form). AllByRecursion (IsCountedRow f) ys) (sym kept) short.1))
 
 rows_fit : (width : ℕ) (pen : Pen) (xs ys : List RowValue) → length xs < 2 ^ 16 → 0 < width → width < 2 ^ 16 →
-    FitsAttrs pen.attrs → AllByRecursion (IsFitRow width) xs → FitsWritten (rows_written pen xs ys)
+    FitsAttrs pen.attrs → AllByRecursion (IsFitRow width) xs → AllByRecursion (IsCountedRow pen.form) ys →
+    FitsWritten (rows_written pen xs ys)
 unfolding rows_written
-rows_fit width pen [] ys h some l was fit = record { ops = tt; attrs = was }
-rows_fit width pen (x ∷ xs) [] h some l was fit = record { ops = tt; attrs = was }
-rows_fit width pen (x ∷ xs) (y ∷ ys) h some l was fit =
+rows_fit width pen [] ys h some l was fit short = record { ops = tt; attrs = was }
+rows_fit width pen (x ∷ xs) [] h some l was fit short = record { ops = tt; attrs = was }
+rows_fit width pen (x ∷ xs) (y ∷ ys) h some l was fit short =
     let row = row_written 0 0 pen y.wrapped x y.cells in
-    let one = row_fits 0 0 width pen y.wrapped x y.cells (omega arith) some l was fit.0 in
+    let one = row_fits 0 0 width pen y.wrapped x y.cells (omega arith) some l short.0 was fit.0 in
     fits_after row.ops (rows_below 0 row.pen x row.flag xs ys) one.ops
-    (below_fit 0 width row.pen x row.flag xs ys (omega arith) some l one.attrs fit.0 fit.1)
+    (below_fit 0 width row.pen x row.flag xs ys (omega arith) some l one.attrs fit.0 fit.1
+    (subst (λ (f : Form). AllByRecursion (IsCountedRow f) ys) (sym (row_form 0 0 pen y.wrapped x y.cells)) short.1))
 
 -- ---- the cursor
 
@@ -356,13 +403,14 @@ picture_fits self is colors =
     (recursion_from_All (λ row. All (λ cell. FitsAttrs (attrs_of cell)) row.cells) self.rows colors.cells)
 
 script_fits : (form : Form) (self prev : Picture) → IsPicture self →
-    IsColoredPicture self → FitsAttrs prev.attrs → AllFit (script_in form self prev)
+    IsColoredPicture self → FitsAttrs prev.attrs → AllByRecursion (IsCountedRow form) prev.rows →
+    AllFit (script_in form self prev)
 unfolding script_in
-script_fits form self prev is colors was =
+script_fits form self prev is colors was short =
     let w = rows_written (pen_of form prev) self.rows prev.rows in
     let fit = picture_fits self is colors in
     let rows =
-    rows_fit self.width (pen_of form prev) self.rows prev.rows colors.height is.has_columns colors.columns was fit in
+    rows_fit self.width (pen_of form prev) self.rows prev.rows colors.height is.has_columns colors.columns was fit short in
     fits_append w.ops
     (cursor_written w.pen self.width self.rows self.row self.column ++ attr_ops_in form w.pen.attrs self.attrs) rows.ops
     (fits_append (cursor_written w.pen self.width self.rows self.row self.column) (attr_ops_in form w.pen.attrs self.attrs)
@@ -371,22 +419,47 @@ script_fits form self prev is colors was =
     (changing_fits form w.pen.attrs self.attrs rows.attrs colors.attrs))
 
 pub difference_fits_in : (form : Form) (self prev : Picture) → IsPicture self → IsColoredPicture self →
-    FitsAttrs prev.attrs → AllByRecursion Fits (difference_in form self prev)
+    FitsAttrs prev.attrs → AllByRecursion (IsCountedRow form) prev.rows → AllByRecursion Fits (difference_in form self prev)
 unfolding difference_in
-difference_fits_in form self prev is colors was =
+difference_fits_in form self prev is colors was short =
     fits_append (cursor_visibility_ops self prev) (script_in form self prev)
     (cond_both (same_bool self.hidden prev.hidden) [] (Hide self.hidden ∷ []) AllFit (λ _. tt) (λ _. (tt, tt)))
-    (script_fits form self prev is colors was)
+    (script_fits form self prev is colors was short)
 
 pub difference_fits : (self prev : Picture) → IsPicture self → IsColoredPicture self →
     FitsAttrs prev.attrs → AllByRecursion Fits (difference self prev)
-difference_fits = difference_fits_in Fixed
+difference_fits self prev is colors was =
+    difference_fits_in Fixed self prev is colors was (uncounted prev.rows) where
+      uncounted : (rows : List RowValue) → AllByRecursion (IsCountedRow Fixed) rows
+      uncounted [] = tt
+      uncounted (row ∷ rows) = (tt, uncounted rows)
 
 pub redraw_fits_in : (form : Form) (self : Picture) → IsPicture self → IsColoredPicture self →
     AllByRecursion Fits (redraw_in form self)
 unfolding redraw_in
-redraw_fits_in form self is colors =
-    (tt, (tt, ((omega arith, omega arith), (tt, script_fits form self (blank_like self) is colors (tt, tt)))))
+redraw_fits_in form self is colors = (
+  tt,
+  (
+    tt,
+    (
+      (omega arith, omega arith),
+      (
+        tt,
+        script_fits form self (blank_like self) is colors (tt, tt)
+            (blanks_counted (length self.rows)),
+      ),
+    ),
+  ),
+)
+  where
+    blanks_counted : (n : ℕ) → AllByRecursion (IsCountedRow form) (replicate n (blank_row default_attrs self.width))
+    blanks_counted zero = tt
+    blanks_counted (suc n) =
+        let columns = length-replicate self.width default_blank in
+        let wide = colors.columns in (
+          counted form (length (blank_row default_attrs self.width).cells) (omega (arith, columns, wide)),
+          blanks_counted n,
+        )
 
 pub redraw_fits : (self : Picture) → IsPicture self → IsColoredPicture self → AllByRecursion Fits (redraw self)
 redraw_fits = redraw_fits_in Fixed

@@ -25,6 +25,10 @@ use Rattle.vt_redraw.proofs.Halves.{Paired, paired_of}
 use Rattle.vt_redraw.proofs.Link.{last_cases}
 use Rattle.vt_redraw.proofs.RangeDraws.{begun_paired, begun_over_paired}
 use Rattle.vt_redraw.proofs.Standing.{cells_nothing}
+use Rattle.vt_cells.specs.Cell.{is_right_half}
+use Rattle.vt_redraw.specs.declared.form.Form.{Form}
+use Rattle.vt_redraw.specs.declared.form.Form.TheVariants.{Fixed}
+use Rattle.vt_redraw.specs.declared.form.Form.TheVariants.{Portable}
 
 -- ---- empty output
 
@@ -45,9 +49,14 @@ some_chars : (n : ℕ) → bytes_of (EraseChars (suc n)) ≡ [] → ⊥
 some_chars zero h = cc
 some_chars (suc n) h = cc
 
-some_run : (n : ℕ) (xs : List CellValue) → bytes_of (erase_run (suc n) xs) ≡ [] → ⊥
-some_run n [] h = cc
-some_run n (x ∷ xs) h = some_chars n h
+some_run : (form : Form) (n : ℕ) (xs : List CellValue) → bytes_of (erase_run form (suc n) xs) ≡ [] → ⊥
+some_run form n [] h = cc
+some_run Fixed n (x ∷ xs) h = some_chars n h
+some_run Portable n (x ∷ xs) h = by_half (is_right_half x) h where
+  by_half : (b : Bool) → bytes_of (EraseChars (if b then suc n + 1 else suc n)) ≡ [] → ⊥
+  by_half false e = some_chars n e
+  by_half true e = let m : suc n + 1 ≡ suc (suc n) = omega arith in
+      some_chars (suc n) (ap (λ (k : ℕ). bytes_of (EraseChars k)) (sym m) ∙ e)
 
 some_text : (text : List ℕ) (wide : Bool) (a : Attrs) → IsCell (glyph text wide a) → text ≡ [] → ⊥
 some_text text wide a is h =
@@ -73,7 +82,7 @@ cells_none r c pen flag (blank a ∷ xs) (y ∷ ys) e h k is none =
         (t : Bool) →
         same_cell (blank a) y ≡ t →
         bytes_of_all (if t then cells_written r (c + 1) pen flag 0 xs ys
-        else ops_then (placed_op pen r c a (erase_run (suc (blank_run a xs)) (drop (blank_run a xs) ys)))
+        else ops_then (placed_op pen r c a (erase_run pen.form (suc (blank_run a xs)) (drop (blank_run a xs) ys)))
         (cells_written r (c + 1) (pen_in pen.form r c a) (wrapped_after_erasure flag (drop (blank_run a xs) ys)) (blank_run a xs) xs ys)).ops
         ≡ [] →
         blank a ∷ xs ≡ y ∷ ys
@@ -81,8 +90,8 @@ cells_none r c pen flag (blank a ∷ xs) (y ∷ ys) e h k is none =
         let same = cell_of-same (blank a) y t in
         same_ahead (blank a) y xs ys same (more (subst (λ (z : CellValue). Paired (z ∷ ys)) (sym same) k) none)
     by_test more false t none =
-        let op = erase_run (suc (blank_run a xs)) (drop (blank_run a xs) ys) in
-        absurd (some_run (blank_run a xs) (drop (blank_run a xs) ys)
+        let op = erase_run pen.form (suc (blank_run a xs)) (drop (blank_run a xs) ys) in
+        absurd (some_run pen.form (blank_run a xs) (drop (blank_run a xs) ys)
         (no_doing pen r c a op (none_of_ops (placed_op pen r c a op) _ none).0))
 cells_none r c pen flag (glyph text false a ∷ xs) (y ∷ ys) e h k is none =
     by_test (λ p n. cells_none r (c + 1) pen flag xs ys (omega arith) h p is.1 n)

@@ -1,5 +1,5 @@
 -- Each operation of a row's item has only numbers and text that are read back unchanged.
-use Rattle.std.proofs.Common.{◌≡◌, ℕ, zero, suc, ◌-◌, ◌<◌, ◌≤◌, ◌^◌, ◌&&◌, Bool, false}
+use Rattle.std.proofs.Common.{◌≡◌, ℕ, zero, suc, ◌-◌, ◌<◌, ◌≤◌, ◌^◌, ◌&&◌, Bool, false, subst, sym}
 use Rattle.std.proofs.Common.{not, List, [], ◌∷◌, ◌++◌, length, take, drop, refl, arith}
 use Rattle.std.specs.List.{AllByRecursion}
 use Rattle.std.proofs.lemmas.Bool.{cond_both}
@@ -15,8 +15,10 @@ use Rattle.vt_redraw.specs.Items.{in_range, with_whole_start, with_whole_start_o
 use Rattle.vt_redraw.specs.Items.{item_of_difference, item_of_redraw, linked_item}
 use Rattle.vt_redraw.specs.Picture.{Picture, IsPicture, IsColoredPicture}
 use Rattle.vt_redraw.specs.Script.{Scripted, after_last_glyph, cells_written, first_written, ops_then, pen_at, row_break}
-use Rattle.vt_redraw.proofs.Fitting.{IsFit, IsFitRow, FitsWritten, fits_after, fits_append, cells_fit}
+use Rattle.vt_redraw.proofs.Fitting.{IsFit, IsFitRow, FitsWritten, fits_after, fits_append, cells_fit, IsCounted}
 use Rattle.vt_redraw.proofs.Fitting.{after_fits, broken_fits, first_fits, picture_fits, row_at_fits}
+use Rattle.vt_redraw.proofs.Forms.{first_form}
+use Rattle.vt_redraw.specs.declared.form.Form.{Form}
 
 plain : FitsAttrs default_attrs
 plain = (tt, tt)
@@ -52,7 +54,7 @@ range_fits r start stop width flag x ys low le inside small fit =
     let m = length-take (stop - start) (drop start xs) in
     let n = begun_length (in_range start stop xs) in
     cells_fit r start (pen_at r start default_attrs) flag 0 (with_whole_start (in_range start stop xs))
-    (with_whole_start_over (in_range start stop xs) (drop start ys)) low (omega arith) plain
+    (with_whole_start_over (in_range start stop xs) (drop start ys)) low (omega arith) tt plain
     (begun_fits (in_range start stop xs) (take_fits (stop - start) (drop start xs) (drop_fits start xs fit.cells)))
 
 item_fits : (r start stop width : ℕ) (x y : RowValue) → r < 65535 → start ≤ stop → stop ≤ width →
@@ -81,7 +83,8 @@ linked_fits r width x low small fit =
     let first = first_written r (pen_at r 0 default_attrs) false x.cells ys in
     let one = first_fits r (pen_at r 0 default_attrs) false x.cells ys low plain fit.cells in
     fits_after first.ops (cells_written r 0 first.pen first.flag first.settled x.cells ys) one.ops
-    (cells_fit r 0 first.pen first.flag first.settled x.cells ys low (omega arith) one.attrs fit.cells)
+    (cells_fit r 0 first.pen first.flag first.settled x.cells ys low (omega arith)
+    (subst (λ (f : Form). IsCounted f (length ys)) (sym (first_form r (pen_at r 0 default_attrs) false x.cells ys)) tt) one.attrs fit.cells)
 
 pub difference_item_fits : (self : Picture) (r start stop : ℕ) (y : RowValue) → IsPicture self →
     IsColoredPicture self → r < length self.rows → start ≤ stop → stop ≤ self.width →

@@ -153,7 +153,7 @@ cells_least r c pen flag zero (blank a ∷ xs) (suc n) h le =
     let ys = drop m (blanks default_attrs n) in
     let was = Some pen.attrs in
     let rest = cells_written r (c + 1) (pen_in pen.form r c a) (wrapped_after_erasure flag ys) m xs (blanks default_attrs n) in
-    let op = erase_run (suc m) ys in
+    let op = erase_run pen.form (suc m) ys in
     let erased = placed_op pen r c a op in
     cond_both (same_attrs a default_attrs) (cells_written r (c + 1) pen flag 0 xs (blanks default_attrs n))
     (ops_then erased rest) (λ (w : Scripted). drawn_least was (blank a ∷ xs) ≤ bytes_len w.ops)

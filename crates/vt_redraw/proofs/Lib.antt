@@ -25,6 +25,7 @@ pub mod EmptyDifference
 pub mod Clear
 pub mod Redrawing
 pub mod Refusals
+pub mod Forms
 pub mod Fitting
 pub mod Saving
 pub mod CursorAlone

@@ -20,7 +20,7 @@ use Rattle.vt_redraw.proofs.Halves.{Paired, opened_paired}
 use Rattle.vt_redraw.proofs.Flags.{ends, ends_append, kept, Sound}
 use Rattle.vt_redraw.proofs.Edits.{row_of, mid, glyph_cells, chars_erased}
 use Rattle.vt_redraw.proofs.Texts.{Prints, glyph_at, mark_column_at}
-use Rattle.vt_redraw.proofs.Places.{PrintsCells, Place, shown, Ready, Wrote, doing_draws, going_there}
+use Rattle.vt_redraw.proofs.Places.{PrintsCells, Place, shown, Ready, Wrote, doing_draws, going_there, second_left}
 use Rattle.vt_redraw.specs.Touching.{Changes, Touches}
 use Rattle.vt_redraw.proofs.Touched.{DrawsIn, in_then, in_to, quiet_in, changing_quiet, changes_at}
 use Rattle.vt_redraw.proofs.TouchedTexts.{print_in}
@@ -219,11 +219,6 @@ going_after_draws May base done below xs flag r height pen reads e rows w h full
     some_columns false = omega arith
 
 -- ---- the break
-
--- The second cell that is left after a wide glyph is erased.
-abbrev pub second_left : Form → Attrs → CellValue
-second_left Fixed a = default_blank
-second_left Portable a = blank a
 
 -- The blanks that are left after the last glyph is erased.
 abbrev pub blanked : Form → Bool → Attrs → List CellValue

@@ -1,10 +1,10 @@
 -- The position at which a row is written, the cells there, and the output written so far.
-use Rattle.std.proofs.Common.{◌≡◌, ℕ, zero, suc, ◌-◌, ◌+◌, ◌<◌, ◌≤◌, ◌&&◌, ◌||◌, Bool, true, not, List, [], ◌∷◌, ◌++◌}
-use Rattle.std.proofs.Common.{length, take, drop, min, Some, refl, sym, ap, ◌∙◌, subst, append_assoc, arith}
+use Rattle.std.proofs.Common.{◌≡◌, ℕ, zero, suc, ◌-◌, ◌+◌, ◌<◌, ◌≤◌, ◌&&◌, ◌||◌, Bool, true, false, not, List, [], ◌∷◌, ◌++◌}
+use Rattle.std.proofs.Common.{length, take, drop, min, Some, refl, sym, ap, ◌∙◌, subst, append_assoc, arith, inl, inr, ◌⊎◌}
 use Rattle.std.proofs.lemmas.List.{length-append, length-drop}
 use Rattle.std.specs.List.{AllByRecursion}
-use Rattle.vt_cells.specs.Cell.{CellValue, blank, glyph, right_half, default_blank, is_right_half}
-use Rattle.vt_cells.specs.Op.{Op}
+use Rattle.vt_cells.specs.Cell.{CellValue, blank, glyph, right_half, default_blank, is_right_half, is_blank}
+use Rattle.vt_cells.specs.Op.{Op, EraseChars}
 use Rattle.vt_cells.specs.Attrs.{Attrs}
 use Rattle.vt_rows.specs.Cells.{at, blanks, cells_after_cut}
 use Rattle.vt_rows.specs.Row.{RowValue}
@@ -14,12 +14,16 @@ use Rattle.vt_redraw.specs.declared.pen.Pen.{Pen}
 use Rattle.vt_grid.proofs.Drawing.{Draws}
 use Rattle.vt_redraw.proofs.Steps.{at_pen, Reads, Within, going_draws, changing_draws}
 use Rattle.vt_redraw.specs.Script.{Scripted, is_nil, is_torn, ops_then, placed_op, wrapped_after_erasure}
-use Rattle.vt_redraw.proofs.Halves.{Paired, Loose, drop_opened}
+use Rattle.vt_redraw.proofs.Halves.{Paired, Loose, drop_opened, opened_paired}
 use Rattle.vt_redraw.proofs.Flags.{ends_append, ends_blanks, kept, Sound, flag_step}
-use Rattle.vt_redraw.proofs.Edits.{row_of, mid, run_erased}
+use Rattle.vt_redraw.proofs.Edits.{row_of, mid, run_erased, chars_erased}
 use Rattle.vt_redraw.proofs.Texts.{Prints}
 use Rattle.vt_redraw.specs.Touching.{Changes, Touches}
 use Rattle.vt_redraw.proofs.Touched.{DrawsIn, in_then, quiet_in, going_quiet, changing_quiet, changes_at}
+use Rattle.std.proofs.lemmas.Bool.{cases_lt}
+use Rattle.vt_redraw.specs.declared.form.Form.{Form}
+use Rattle.vt_redraw.specs.declared.form.Form.TheVariants.{Fixed}
+use Rattle.vt_redraw.specs.declared.form.Form.TheVariants.{Portable}
 
 -- A glyph reproduces itself when printed on screens of the given width; cells of other kinds are drawn without text.
 abbrev pub PrintsCell : ℕ → CellValue → Type 0
@@ -144,23 +148,34 @@ going_there May base done below row flag r c height pen reads e h lt within =
 
 -- ---- a run of blanks
 
-run_flag : (f n t : Bool) → (f && not ((n && true) || (t && true))) ≡ (f && not (n || t))
-run_flag f n t = grind (arith)
+-- The cell that is left of the second half of a wide glyph when its first half is erased.
+abbrev pub second_left : Form → Attrs → CellValue
+second_left Fixed a = default_blank
+second_left Portable a = blank a
 
-pub run_flagged : (pre : List CellValue) (o y : CellValue) (ys : List CellValue) (flag : Bool) (n : ℕ) (attrs : Attrs) →
-    Sound flag (pre ++ cells_after_cut o (y ∷ ys)) →
-    kept flag (pre ++ (blanks attrs (suc n) ++ cells_after_cut default_blank (drop n ys))) ≡ wrapped_after_erasure flag (drop n ys)
-run_flagged pre o y ys flag n attrs sound =
-    flag_step pre (blanks attrs (suc n)) y ys default_blank o n flag true
+left_is_blank : (form : Form) (a : Attrs) → is_blank (second_left form a) ≡ true
+left_is_blank Fixed a = refl
+left_is_blank Portable a = refl
+
+run_flag : (f n t q : Bool) → q ≡ true → (f && not ((n && true) || (t && q))) ≡ (f && not (n || t))
+run_flag f n t q e = grind (arith, e)
+
+pub run_flagged : (form : Form) (pre : List CellValue) (o y : CellValue) (ys : List CellValue) (flag : Bool) (n : ℕ)
+    (attrs : Attrs) → Sound flag (pre ++ cells_after_cut o (y ∷ ys)) →
+    kept flag (pre ++ (blanks attrs (suc n) ++ cells_after_cut (second_left form attrs) (drop n ys)))
+    ≡ wrapped_after_erasure flag (drop n ys)
+run_flagged form pre o y ys flag n attrs sound =
+    flag_step pre (blanks attrs (suc n)) y ys (second_left form attrs) o n flag true
     (ends_append pre (blank attrs) (blanks attrs n) ∙ ends_blanks n attrs) sound
-    ∙ run_flag flag (is_nil (drop n ys)) (is_torn (drop n ys))
+    ∙ run_flag flag (is_nil (drop n ys)) (is_torn (drop n ys)) (is_blank (second_left form attrs))
+    (left_is_blank form attrs)
 
 -- The run of the cell y and the n cells after it can be erased.
-pub run_draws : (base : Canvas) (done below : List RowValue) (pre : List CellValue)
+run_draws : (base : Canvas) (done below : List RowValue) (pre : List CellValue)
     (o y : CellValue) (ys : List CellValue) (flag : Bool) (r c n : ℕ) (attrs : Attrs) →
     length done ≡ r → length pre ≡ c → Paired pre →
     c + suc (length ys) ≡ base.page.width → n ≤ length ys → Sound flag (pre ++ cells_after_cut o (y ∷ ys)) →
-    Draws (erase_run (suc n) (drop n ys) ∷ []) (mid base done below (pre ++ cells_after_cut o (y ∷ ys)) flag (pen_at r c attrs))
+    Draws (erase_run Fixed (suc n) (drop n ys) ∷ []) (mid base done below (pre ++ cells_after_cut o (y ∷ ys)) flag (pen_at r c attrs))
     (mid base done below (pre ++ (blanks attrs (suc n) ++ cells_after_cut default_blank (drop n ys)))
     (wrapped_after_erasure flag (drop n ys)) (pen_at r c attrs))
 run_draws base done below pre o y ys flag r c n attrs e l h fits le sound =
@@ -171,7 +186,7 @@ run_draws base done below pre o y ys flag r c n attrs e l h fits le sound =
     ∙ (ap (λ (rest : List CellValue). Some (mid base done below (row rest) (kept flag (row rest)) pen))
     (drop_opened n o (y ∷ ys))
     ∙ ap (λ (f : Bool). Some (mid base done below (row (drop n ys)) f pen))
-    (run_flagged pre o y ys flag n attrs sound))
+    (run_flagged Fixed pre o y ys flag n attrs sound))
 
 at_drop : (n : ℕ) (ys : List CellValue) → at (drop n ys) 0 ≡ at ys n
 at_drop zero ys = refl
@@ -187,7 +202,7 @@ run_touches : (May : ℕ → ℕ → Type 0) (base : Canvas) (done below : List 
     (pre rest more : List CellValue) (flag : Bool) (r c n : ℕ) (attrs : Attrs) →
     c + (suc n + length more) ≡ base.page.width →
     Changes May c (suc n) (mid base done below (pre ++ rest) flag (pen_at r c attrs)).page →
-    Touches May (erase_run (suc n) more ∷ []) (mid base done below (pre ++ rest) flag (pen_at r c attrs))
+    Touches May (erase_run Fixed (suc n) more ∷ []) (mid base done below (pre ++ rest) flag (pen_at r c attrs))
 run_touches May base done below pre rest [] flag r c n attrs fits h =
     let page = (mid base done below (pre ++ rest) flag (pen_at r c attrs)).page in
     let m : base.page.width - c ≡ suc n = omega arith in
@@ -197,16 +212,16 @@ run_touches May base done below pre rest (y ∷ more) flag r c n attrs fits h =
     let m : min (suc n) (base.page.width - c) ≡ suc n = omega arith in
     (λ _. subst (λ (k : ℕ). Changes May c k page) (sym m) h, λ q e. tt)
 
-pub run_in : (May : ℕ → ℕ → Type 0) (base : Canvas) (done below : List RowValue) (pre : List CellValue)
+run_in_fixed : (May : ℕ → ℕ → Type 0) (base : Canvas) (done below : List RowValue) (pre : List CellValue)
     (o y : CellValue) (ys : List CellValue) (flag : Bool) (r c n : ℕ) (attrs : Attrs) →
     length done ≡ r → length pre ≡ c → Paired pre →
     c + suc (length ys) ≡ base.page.width → n ≤ length ys → Sound flag (pre ++ cells_after_cut o (y ∷ ys)) →
     ((k : ℕ) → c ≤ k → k < c + suc n → May r k) → (is_right_half (at (drop n ys) 0) ≡ true → May r (c + suc n)) →
-    DrawsIn May (erase_run (suc n) (drop n ys) ∷ [])
+    DrawsIn May (erase_run Fixed (suc n) (drop n ys) ∷ [])
     (mid base done below (pre ++ cells_after_cut o (y ∷ ys)) flag (pen_at r c attrs))
     (mid base done below (pre ++ (blanks attrs (suc n) ++ cells_after_cut default_blank (drop n ys)))
     (wrapped_after_erasure flag (drop n ys)) (pen_at r c attrs))
-run_in May base done below pre o y ys flag r c n attrs e l h fits le sound inside behind =
+run_in_fixed May base done below pre o y ys flag r c n attrs e l h fits le sound inside behind =
     let d = length-drop n ys in
     record {
       draws = run_draws base done below pre o y ys flag r c n attrs e l h fits le sound;
@@ -214,3 +229,126 @@ run_in May base done below pre o y ys flag r c n attrs e l h fits le sound insid
           (changes_at May base done below pre (cells_after_cut o (y ∷ ys)) flag r c (suc n) c attrs
           e l h inside (λ t. behind (sym (ap is_right_half (at_after o y ys n)) ∙ t)));
     }
+
+-- ---- a run of blanks in either form
+
+drop_next : (n : ℕ) (ys zs : List CellValue) (z : CellValue) → drop n ys ≡ z ∷ zs → drop (suc n) ys ≡ zs
+drop_next zero [] zs z h = absurd cc
+drop_next zero (y ∷ ys) zs z h = ap (drop 1) h
+drop_next (suc n) [] zs z h = absurd cc
+drop_next (suc n) (y ∷ ys) zs z h = drop_next n ys zs z h
+
+blanks_then : (n : ℕ) (attrs : Attrs) (zs : List CellValue) →
+    blanks attrs (suc n) ++ zs ≡ blanks attrs n ++ blank attrs ∷ zs
+blanks_then zero attrs zs = refl
+blanks_then (suc n) attrs zs = ap (λ (z : List CellValue). blank attrs ∷ z) (blanks_then n attrs zs)
+
+same_run : (n : ℕ) (zs : List CellValue) → is_right_half (at zs 0) ≡ false →
+    erase_run Fixed n zs ≡ erase_run Portable n zs
+same_run n [] f = refl
+same_run n (z ∷ zs) f = rw f refl
+
+same_cut : (p q : CellValue) (zs : List CellValue) → is_right_half (at zs 0) ≡ false →
+    cells_after_cut p zs ≡ cells_after_cut q zs
+same_cut p q [] f = refl
+same_cut p q (blank a ∷ zs) f = refl
+same_cut p q (glyph text wide a ∷ zs) f = refl
+same_cut p q (right_half ∷ zs) f = absurd cc
+
+starts_half : (zs : List CellValue) → is_right_half (at zs 0) ≡ true → zs ≡ right_half ∷ drop 1 zs
+starts_half [] t = absurd cc
+starts_half (blank a ∷ zs) t = absurd cc
+starts_half (glyph text wide a ∷ zs) t = absurd cc
+starts_half (right_half ∷ zs) t = refl
+
+paired_start : (zs : List CellValue) → Paired zs → is_right_half (at zs 0) ≡ false
+paired_start [] h = refl
+paired_start (blank a ∷ zs) h = refl
+paired_start (glyph text wide a ∷ zs) h = refl
+paired_start (right_half ∷ zs) h = absurd h
+
+-- A run of blanks and the second half of a wide glyph after it are erased.
+run_with_half : (May : ℕ → ℕ → Type 0) (base : Canvas) (done below : List RowValue) (pre : List CellValue)
+    (o y : CellValue) (ys zs : List CellValue) (flag : Bool) (r c n : ℕ) (attrs : Attrs) →
+    length done ≡ r → length pre ≡ c → Paired pre → c + suc (length ys) ≡ base.page.width →
+    drop n ys ≡ right_half ∷ zs → Paired zs → Sound flag (pre ++ cells_after_cut o (y ∷ ys)) →
+    ((k : ℕ) → c ≤ k → k < c + suc n → May r k) → May r (c + suc n) →
+    DrawsIn May (EraseChars (suc n + 1) ∷ [])
+    (mid base done below (pre ++ cells_after_cut o (y ∷ ys)) flag (pen_at r c attrs))
+    (mid base done below (pre ++ (blanks attrs (suc n) ++ cells_after_cut (blank attrs) (drop n ys)))
+    (wrapped_after_erasure flag (drop n ys)) (pen_at r c attrs))
+run_with_half May base done below pre o y ys zs flag r c n attrs e l h fits is paired sound inside behind =
+    let pen = pen_at r c attrs in
+    let old = cells_after_cut o (y ∷ ys) in
+    let start = mid base done below (pre ++ old) flag pen in
+    let size = ap length is in
+    let d = length-drop n ys in
+    let rest : drop (suc n) ys ≡ zs = drop_next n ys zs right_half is in
+    let count : suc (suc n) ≡ suc n + 1 = omega arith in
+    let same : pre ++ (blanks attrs (suc (suc n)) ++ cells_after_cut default_blank (drop (suc (suc n)) old))
+    ≡ pre ++ (blanks attrs (suc n) ++ cells_after_cut (blank attrs) (drop n ys)) =
+    ap (λ (z : List CellValue). pre ++ (blanks attrs (suc (suc n)) ++ cells_after_cut default_blank z))
+    (drop_opened (suc n) o (y ∷ ys) ∙ rest)
+    ∙ (ap (λ (z : List CellValue). pre ++ (blanks attrs (suc (suc n)) ++ z)) (opened_paired default_blank zs paired)
+    ∙ (ap (λ (z : List CellValue). pre ++ z) (blanks_then (suc n) attrs zs)
+    ∙ ap (λ (z : List CellValue). pre ++ (blanks attrs (suc n) ++ cells_after_cut (blank attrs) z)) (sym is))) in
+    let last : is_right_half (at old (suc (suc n))) ≡ false =
+    ap is_right_half (at_after o y ys (suc n) ∙ ap (λ (z : List CellValue). at z 0) rest) ∙ paired_start zs paired in
+    let wide : min (suc (suc n)) (base.page.width - c) ≡ suc (suc n) = omega (arith, size, d) in
+    let changes = changes_at May base done below pre old flag r c (suc (suc n)) c attrs e l h
+    (λ k low high. by_place k low high (cases_lt k (c + suc n)))
+    (λ t. absurd (cc)) in
+    subst (λ (m : ℕ). DrawsIn May (EraseChars m ∷ []) start
+    (mid base done below (pre ++ (blanks attrs (suc n) ++ cells_after_cut (blank attrs) (drop n ys)))
+    (wrapped_after_erasure flag (drop n ys)) pen)) count
+    (record {
+      draws =
+          chars_erased base done below pre old flag r c (suc n) attrs e l (omega (arith, size, d)) h
+          ∙ (ap (λ (z : List CellValue). Some (mid base done below z (kept flag z) pen)) same
+          ∙ ap (λ (f : Bool). Some (mid base done below
+          (pre ++ (blanks attrs (suc n) ++ cells_after_cut (blank attrs) (drop n ys))) f pen))
+          (run_flagged Portable pre o y ys flag n attrs sound));
+      touches = (λ _. subst (λ (k : ℕ). Changes May c k start.page) (sym wide) changes, λ q f. tt);
+    })
+  where
+    by_place : (k : ℕ) → c ≤ k → k < c + suc (suc n) → (k < c + suc n) ⊎ (c + suc n ≤ k) → May r k
+    by_place k low high (inl less) = inside k low less
+    by_place k low high (inr more) = let same : c + suc n ≡ k = omega (arith, high, more) in subst (May r) same behind
+
+-- The run of the cell y and the n cells after it can be erased.
+pub run_in : (May : ℕ → ℕ → Type 0) (form : Form) (base : Canvas) (done below : List RowValue) (pre : List CellValue)
+    (o y : CellValue) (ys : List CellValue) (flag : Bool) (r c n : ℕ) (attrs : Attrs) →
+    length done ≡ r → length pre ≡ c → Paired pre →
+    c + suc (length ys) ≡ base.page.width → n ≤ length ys → Loose (drop n ys) →
+    Sound flag (pre ++ cells_after_cut o (y ∷ ys)) →
+    ((k : ℕ) → c ≤ k → k < c + suc n → May r k) → (is_right_half (at (drop n ys) 0) ≡ true → May r (c + suc n)) →
+    DrawsIn May (erase_run form (suc n) (drop n ys) ∷ [])
+    (mid base done below (pre ++ cells_after_cut o (y ∷ ys)) flag (pen_at r c attrs))
+    (mid base done below (pre ++ (blanks attrs (suc n) ++ cells_after_cut (second_left form attrs) (drop n ys)))
+    (wrapped_after_erasure flag (drop n ys)) (pen_at r c attrs))
+run_in May Fixed base done below pre o y ys flag r c n attrs e l h fits le loose sound inside behind =
+    run_in_fixed May base done below pre o y ys flag r c n attrs e l h fits le sound inside behind
+run_in May Portable base done below pre o y ys flag r c n attrs e l h fits le loose sound inside behind =
+    by_half (is_right_half (at (drop n ys) 0)) refl
+  where
+    start : Canvas
+    start = mid base done below (pre ++ cells_after_cut o (y ∷ ys)) flag (pen_at r c attrs)
+
+    goal : List CellValue → Canvas
+    goal z =
+        mid base done below (pre ++ (blanks attrs (suc n) ++ z)) (wrapped_after_erasure flag (drop n ys)) (pen_at r c attrs)
+
+    by_half : (b : Bool) → is_right_half (at (drop n ys) 0) ≡ b →
+        DrawsIn May (erase_run Portable (suc n) (drop n ys) ∷ []) start (goal (cells_after_cut (blank attrs) (drop n ys)))
+    by_half false f =
+        subst (λ (op : Op). DrawsIn May (op ∷ []) start (goal (cells_after_cut (blank attrs) (drop n ys))))
+        (same_run (suc n) (drop n ys) f)
+        (subst (λ (z : List CellValue). DrawsIn May (erase_run Fixed (suc n) (drop n ys) ∷ []) start (goal z))
+        (same_cut default_blank (blank attrs) (drop n ys) f)
+        (run_in_fixed May base done below pre o y ys flag r c n attrs e l h fits le sound inside behind))
+    by_half true t =
+        let is = starts_half (drop n ys) t in
+        subst (λ (z : List CellValue). DrawsIn May (erase_run Portable (suc n) z ∷ []) start
+        (goal (cells_after_cut (blank attrs) (drop n ys)))) (sym is)
+        (run_with_half May base done below pre o y ys (drop 1 (drop n ys)) flag r c n attrs e l h fits is
+        (subst Loose is loose) sound inside (behind t))

@@ -4,7 +4,7 @@ use Rattle.std.proofs.Common.{length, take, drop, Some, refl, sym, ap, ◌∙◌
 use Rattle.std.proofs.lemmas.Bool.{cond_both}
 use Rattle.std.proofs.lemmas.Bool.Decides.{nat_tests}
 use Rattle.std.proofs.lemmas.List.{length-drop}
-use Rattle.vt_cells.specs.Cell.{CellValue, blank, glyph, right_half, default_blank, same_cell}
+use Rattle.vt_cells.specs.Cell.{CellValue, blank, glyph, right_half, same_cell}
 use Rattle.vt_cells.specs.Op.{Print}
 use Rattle.vt_cells.specs.Attrs.{Attrs}
 use Rattle.vt_cells.proofs.SameCells.{cell_of-same}
@@ -25,7 +25,7 @@ use Rattle.vt_redraw.proofs.Spots.{Spot, glyph_flag, with_glyph}
 use Rattle.vt_redraw.proofs.Touched.{in_to}
 use Rattle.vt_redraw.proofs.TouchedTexts.{print_in}
 use Rattle.vt_redraw.proofs.Lets.{Lets, lets_next, lets_drop, torn_may, run_may, narrow_may, wide_may}
-use Rattle.vt_redraw.proofs.Places.{PrintsCells, Place, next_place, shown, Ready, ready_next, Wrote}
+use Rattle.vt_redraw.proofs.Places.{PrintsCells, Place, next_place, shown, Ready, ready_next, Wrote, second_left}
 use Rattle.vt_redraw.proofs.Places.{wrote_after, shifted, doing_draws, run_in, run_flagged}
 use Rattle.vt_redraw.specs.declared.form.Form.{Form}
 
@@ -149,7 +149,7 @@ cells_draw May base done below (blank a ∷ xs) (y ∷ ys) pre o r c zero pen fl
     let more = lets.1 in
     let next = next_place base done below pre (blank a) r c height (length ys) at in
     cond_both (same_cell (blank a) y) (cells_written r (c + 1) pen flag 0 xs ys)
-    (ops_then (placed_op pen r c a (erase_run (suc n) (drop n ys)))
+    (ops_then (placed_op pen r c a (erase_run pen.form (suc n) (drop n ys)))
     (cells_written r (c + 1) (pen_in pen.form r c a) (wrapped_after_erasure flag (drop n ys)) n xs ys))
     (λ (w : Scripted). Wrote May w base done below
     (mid base done below (pre ++ cells_after_cut o (y ∷ ys)) flag pen) goal height)
@@ -171,27 +171,28 @@ cells_draw May base done below (blank a ∷ xs) (y ∷ ys) pre o r c zero pen fl
     let q = pen_in pen.form r c a in
     let now = wrapped_after_erasure flag (drop n ys) in
     let taken : blanks a n ≡ take n xs = sym (run_blanks a xs) in
-    let row = λ (z : List CellValue). pre ++ blank a ∷ (z ++ cells_after_cut default_blank (drop n ys)) in
+    let left = second_left pen.form a in
+    let row = λ (z : List CellValue). pre ++ blank a ∷ (z ++ cells_after_cut left (drop n ys)) in
     let sound : Sound now (row (take n xs)) =
     subst (λ (z : List CellValue). Sound now (row z)) taken
-    (sound_kept flag (row (blanks a n)) now (run_flagged pre o y ys flag n a h.sound)) in
-    wrote_after May (placed_op pen r c a (erase_run (suc n) (drop n ys))) (cells_written r (c + 1) q now n xs ys)
+    (sound_kept flag (row (blanks a n)) now (run_flagged pen.form pre o y ys flag n a h.sound)) in
+    wrote_after May (placed_op pen r c a (erase_run pen.form (suc n) (drop n ys))) (cells_written r (c + 1) q now n xs ys)
     base done below (mid base done below (pre ++ cells_after_cut o (y ∷ ys)) flag pen)
     (mid base done below (row (take n xs)) now q) goal height
-    (doing_draws May base done below (pre ++ cells_after_cut o (y ∷ ys)) flag r c height pen a (erase_run (suc n) (drop n ys))
+    (doing_draws May base done below (pre ++ cells_after_cut o (y ∷ ys)) flag r c height pen a (erase_run pen.form (suc n) (drop n ys))
     (mid base done below (row (take n xs)) now q) at.reads at.above at.rows (omega arith) within
-    (in_to May (erase_run (suc n) (drop n ys) ∷ []) (mid base done below (pre ++ cells_after_cut o (y ∷ ys)) flag q)
+    (in_to May (erase_run pen.form (suc n) (drop n ys) ∷ []) (mid base done below (pre ++ cells_after_cut o (y ∷ ys)) flag q)
     (mid base done below (row (blanks a n)) now q) (mid base done below (row (take n xs)) now q)
-    (run_in May base done below pre o y ys flag r c n a at.above at.before front here (omega arith)
-    h.sound (λ k low high. blank_may May r c a xs ys k lets.0 more (omega arith) low high)
+    (run_in May pen.form base done below pre o y ys flag r c n a at.above at.before front here (omega arith)
+    (loose_drop n ys (loose_step y ys h.old)) h.sound (λ k low high. blank_may May r c a xs ys k lets.0 more (omega arith) low high)
     (λ t. torn_may May r (c + suc n) (drop n xs) (drop n ys) (run_paired a xs h.new)
     (lets_drop May n r (c + 1) (c + suc n) xs ys (omega arith) more)
     (drops_le n xs ys (omega arith)) (subst Paired (drop_both n xs ys le) h.tail) t))
     (ap (λ (z : List CellValue). mid base done below (row z) now q) taken)))
     (shifted May (cells_written r (c + 1) q now n xs ys) base done below pre (blank a)
-    (take n xs ++ cells_after_cut default_blank (drop n ys)) (xs ++ drop (length xs) ys) now q height
-    (cells_draw May base done below xs ys (pre ++ blank a ∷ []) default_blank r (c + 1) n q now height next
-    (ready_next (blank a) xs ys pre default_blank n now (omega arith) h.tail le
+    (take n xs ++ cells_after_cut left (drop n ys)) (xs ++ drop (length xs) ys) now q height
+    (cells_draw May base done below xs ys (pre ++ blank a ∷ []) left r (c + 1) n q now height next
+    (ready_next (blank a) xs ys pre left n now (omega arith) h.tail le
     (paired_append pre (blank a ∷ take n xs) front (subst Paired taken (paired_blanks n a)))
     (run_paired a xs h.new) (loose_drop n ys (loose_step y ys h.old)) sound) prints.1
     (pen_within base done below pre r c height (suc (length ys)) c pen.form a at (omega arith)) more)))

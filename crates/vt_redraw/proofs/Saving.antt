@@ -63,9 +63,9 @@ changing_safe form was new =
     (λ _. cond_both (resets form was new) (ClearAttrs ∷ ChangeAttrs default_attrs new ∷ [])
     (ChangeAttrs was new ∷ []) IsSafe (λ _. λ s. (tt, (tt, tt))) (λ _. λ s. (tt, tt)))
 
-erase_run_safe : (n : ℕ) (xs : List CellValue) → IsSafe (erase_run n xs ∷ [])
-erase_run_safe n [] s = (tt, tt)
-erase_run_safe n (x ∷ xs) s = (tt, tt)
+erase_run_safe : (form : Form) (n : ℕ) (xs : List CellValue) → IsSafe (erase_run form n xs ∷ [])
+erase_run_safe form n [] s = (tt, tt)
+erase_run_safe form n (x ∷ xs) s = (tt, tt)
 
 doing_safe : (pen : Pen) (r c : ℕ) (attrs : Attrs) (op : Op) → IsSafe (op ∷ []) → IsSafe (placed_op pen r c attrs op)
 doing_safe pen r c attrs op h =
@@ -90,12 +90,12 @@ cells_safe r c pen flag (suc k) (x ∷ xs) (y ∷ ys) = cells_safe r (c + 1) pen
 cells_safe r c pen flag zero (right_half ∷ xs) (y ∷ ys) = cells_safe r (c + 1) pen flag zero xs ys
 cells_safe r c pen flag zero (blank a ∷ xs) (y ∷ ys) =
     let n = blank_run a xs in
-    let op = erase_run (suc n) (drop n ys) in
+    let op = erase_run pen.form (suc n) (drop n ys) in
     let rest = cells_written r (c + 1) (pen_in pen.form r c a) (wrapped_after_erasure flag (drop n ys)) n xs ys in
     cond_both (same_cell (blank a) y) (cells_written r (c + 1) pen flag zero xs ys)
     (ops_then (placed_op pen r c a op) rest) SafeWritten
     (λ _. cells_safe r (c + 1) pen flag zero xs ys)
-    (λ _. safe_append (placed_op pen r c a op) rest.ops (doing_safe pen r c a op (erase_run_safe (suc n) (drop n ys)))
+    (λ _. safe_append (placed_op pen r c a op) rest.ops (doing_safe pen r c a op (erase_run_safe pen.form (suc n) (drop n ys)))
     (cells_safe r (c + 1) (pen_in pen.form r c a) (wrapped_after_erasure flag (drop n ys)) n xs ys))
 cells_safe r c pen flag zero (glyph text wide a ∷ xs) (y ∷ ys) =
     let k = glyph_columns wide - 1 in

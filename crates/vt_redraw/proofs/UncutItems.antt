@@ -94,7 +94,7 @@ cells_off r c pen zero (blank a ∷ xs) (y ∷ ys) =
     let n = blank_run a xs in
     let rest = cells_written r (c + 1) (pen_in pen.form r c a) (wrapped_after_erasure false (drop n ys)) n xs ys in
     cond_both (same_cell (blank a) y) (cells_written r (c + 1) pen false zero xs ys)
-    (ops_then (placed_op pen r c a (erase_run (suc n) (drop n ys))) rest) (λ (w : Scripted). w.flag ≡ false)
+    (ops_then (placed_op pen r c a (erase_run pen.form (suc n) (drop n ys))) rest) (λ (w : Scripted). w.flag ≡ false)
     (λ _. cells_off r (c + 1) pen zero xs ys) (λ _. cells_off r (c + 1) (pen_in pen.form r c a) n xs ys)
 cells_off r c pen zero (glyph text wide a ∷ xs) (y ∷ ys) =
     let k = glyph_columns wide - 1 in

@@ -138,7 +138,7 @@ glyph_ops pen pos x = placed_op pen pos.row pos.col (attrs_of x) (Print (text_of
 
 -- The operations that erase a run of `count` columns at a position, leaving blanks with the given attributes.
 abbrev pub run_ops : Pen → Pos → Attrs → (count : ℕ) → RowValue → List Op
-run_ops pen pos attrs count y = placed_op pen pos.row pos.col attrs (erase_run count (drop (pos.col + count) y.cells))
+run_ops pen pos attrs count y = placed_op pen pos.row pos.col attrs (erase_run pen.form count (drop (pos.col + count) y.cells))
 
 -- Whether the cell of the row `x` in the given column is skipped, because the displayed row `y` has an equal cell
 -- there or because the cell is the continuation cell of a wide character.

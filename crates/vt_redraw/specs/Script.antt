@@ -58,11 +58,18 @@ is_blank_of attrs right_half = false
 abbrev pub blank_run : Attrs → List CellValue → ℕ
 blank_run attrs cells = prefix_len (is_blank_of attrs) cells
 
+-- The number of columns that are erased to draw `n` blanks before the displayed cell `x`. If `x` is a continuation cell,
+-- the blanks cut a wide glyph, and the portable form also erases `x`, because terminals disagree on what is left of a
+-- wide glyph that is erased in part.
+abbrev pub run_count : Form → ℕ → CellValue → ℕ
+run_count Fixed n x = n
+run_count Portable n x = if is_right_half x then n + 1 else n
+
 -- The operation that draws `n` blanks by erasing cells. If no cells follow the blanks in the row, the whole rest of the
 -- row is erased.
-abbrev pub erase_run : ℕ → List CellValue → Op
-erase_run n [] = EraseRest
-erase_run n (x ∷ xs) = EraseChars n
+abbrev pub erase_run : Form → ℕ → List CellValue → Op
+erase_run form n [] = EraseRest
+erase_run form n (x ∷ xs) = EraseChars (run_count form n x)
 
 -- The operation that moves the cursor one column to the left, to column `c` of row `r`. After a glyph in the last column,
 -- terminals disagree on where the cursor is, so the portable form moves to the position itself.
@@ -126,7 +133,7 @@ cells_written r c pen flag (suc settled) (x ∷ xs) (y ∷ ys) = cells_written r
 cells_written r c pen flag zero (right_half ∷ xs) (y ∷ ys) = cells_written r (c + 1) pen flag zero xs ys
 cells_written r c pen flag zero (blank a ∷ xs) (y ∷ ys) =
     if same_cell (blank a) y then cells_written r (c + 1) pen flag zero xs ys
-    else ops_then (placed_op pen r c a (erase_run (suc (blank_run a xs)) (drop (blank_run a xs) ys)))
+    else ops_then (placed_op pen r c a (erase_run pen.form (suc (blank_run a xs)) (drop (blank_run a xs) ys)))
     (cells_written r (c + 1) (pen_in pen.form r c a) (wrapped_after_erasure flag (drop (blank_run a xs) ys)) (blank_run a xs) xs ys)
 cells_written r c pen flag zero (glyph text wide a ∷ xs) (y ∷ ys) =
     if same_cell (glyph text wide a) y then cells_written r (c + 1) pen flag (glyph_columns wide - 1) xs ys

@@ -16,8 +16,9 @@ ghost use Rattle.vt_redraw.specs.Internals.{AppendsOrStops, GathersOrStops, IsAl
 ghost use Rattle.vt_redraw.specs.Internals.{SettlesOrStops, Writes, cells_from, cells_over, columns_of, glyph_ops};
 ghost use Rattle.vt_redraw.specs.Internals.{run_ops};
 ghost use Rattle.vt_redraw.specs.Refusals.{RefusedOnlyIfSome};
-ghost use Rattle.vt_redraw.specs.Script.{erase_run, pen_in, wrapped_after_erasure, wrapped_after_glyph};
+ghost use Rattle.vt_redraw.specs.Script.{erase_run, run_count, pen_in, wrapped_after_erasure, wrapped_after_glyph};
 
+use crate::form::Form;
 use crate::passing::{next_other, stands_at};
 use crate::pen::Pen;
 use crate::picture_row::PictureRow;
@@ -134,24 +135,47 @@ fn gather_byte<S: Sink>(
     Ok(())
 }
 
+/// Returns the number of columns to erase for a run of `count` blanks that ends just before column
+/// `end`. In the portable form, this includes the continuation cell of a wide glyph that the run
+/// cuts.
+fn run_count(form: Form, count: u16, end: u16, over: &PictureRow<'_>) -> u16
+    requires inside { end < length over.now.cells }
+    requires order { count ≤ end }
+    ensures { result ≡ run_count form count (at over.now.cells end) }
+{
+    match form {
+        Form::Fixed => count,
+        Form::Portable => {
+            // Only for the proof: the end of the run is less than a number of 16 bits.
+            if end < over.cols() && over.cell(end).is_wide_continuation() {
+                return count + 1;
+            }
+            count
+        }
+    }
+}
+
 /// Writes the sequence that erases `count` columns (ECH), or the rest of the
 /// row (EL) if the columns extend to its end. `end` is the column after the
 /// erased columns.
 #[tactic(auto, using(crate::proofs::Filling::erase_run_counted))]
 fn write_erase<S: Sink>(
     sink: &mut S,
+    form: Form,
     count: u16,
     end: u16,
     over: &PictureRow<'_>,
 ) -> Result<(), S::Error>
-    requires { end ≤ length over.now.cells }
+    requires inside { end ≤ length over.now.cells }
+    requires order { count ≤ end }
     ensures text { OnOk result
-        (S.text sink.new ≡ S.text sink.old ++ bytes_of (erase_run count (drop end over.now.cells))) }
-    ensures nonempty { RefusedOnlyIfSome result (bytes_of (erase_run count (drop end over.now.cells))) }
+        (S.text sink.new ≡ S.text sink.old ++ bytes_of (erase_run form count (drop end over.now.cells))) }
+    ensures nonempty { RefusedOnlyIfSome result (bytes_of (erase_run form count (drop end over.now.cells))) }
 {
     if end == over.cols() {
         ClearRowForward.write_buf(sink)
     } else {
+        let count = run_count(form, count, end, over);
         EraseChar { count }.write_buf(sink)
     }
 }
@@ -178,21 +202,23 @@ pub fn write_run<S: Sink>(
     pen.move_to(sink, pos)?;
     pen.change_attrs(sink, attrs)?;
     let end = pos.col + count;
-    write_erase(sink, count, end, over)
+    write_erase(sink, pen.form, count, end, over)
 }
 
 /// Appends to `buffer` the sequence that erases `count` columns (ECH), or the rest
 /// of the row (EL) if the columns extend to its end. `end` is the column after the
 /// erased columns.
 #[tactic(auto, using(crate::proofs::Filling::erase_run_counted))]
-fn push_erase(buffer: &mut Buffer, count: u16, end: u16, over: &PictureRow<'_>)
+fn push_erase(buffer: &mut Buffer, form: Form, count: u16, end: u16, over: &PictureRow<'_>)
     requires inside { end ≤ length over.now.cells }
+    requires order { count ≤ end }
     requires room { length buffer.old + 25 ≤ 256 }
-    ensures { buffer.new ≡ buffer.old ++ bytes_of (erase_run count (drop end over.now.cells)) }
+    ensures { buffer.new ≡ buffer.old ++ bytes_of (erase_run form count (drop end over.now.cells)) }
 {
     if end == over.cols() {
         ClearRowForward.push(buffer);
     } else {
+        let count = run_count(form, count, end, over);
         EraseChar { count }.push(buffer);
     }
 }
@@ -217,7 +243,7 @@ fn gather_run<S: Sink>(
     buffer.make_room(sink, RUN_ROOM)?;
     pen.push_move(buffer, pos);
     pen.push_attrs(buffer, attrs);
-    push_erase(buffer, count, pos.col + count, over);
+    push_erase(buffer, pen.form, count, pos.col + count, over);
     Ok(())
 }
 

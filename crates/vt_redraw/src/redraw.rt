@@ -4,7 +4,7 @@ ghost use Rattle.std.specs.Prelude.{◌≡◌, ◌++◌, OnOk};
 ghost use Rattle.vt_cells.specs.Op.{bytes_of_all};
 ghost use Rattle.vt_redraw.specs.Picture.{SamePictureSize};
 ghost use Rattle.vt_redraw.specs.Refusals.{RefusedOnlyIfSome};
-ghost use Rattle.vt_redraw.specs.Redraw.{cursor_state, difference, cursor_visibility_ops, redraw};
+ghost use Rattle.vt_redraw.specs.Redraw.{cursor_state, difference, difference_in, cursor_visibility_ops, redraw, redraw_in};
 
 use crate::cursor_rule::write_cursor_alone;
 use crate::drawn_rows::RowWatch;
@@ -20,9 +20,25 @@ use vt_cells::term::{BufWrite, ClearAttrs, ClearScreen, HideCursor};
 /// # Errors
 ///
 /// Returns the sink's error. Part of the output may have been written by then.
-#[tactic(auto, unfolding(crate::specs::Redraw::redraw_in))]
 pub fn write_contents_formatted<S: Sink>(sink: &mut S, view: &View<'_>) -> Result<(), S::Error>
     ensures { OnOk result (S.text sink.new ≡ S.text sink.old ++ bytes_of_all (redraw view.now)) }
+{
+    write_contents_formatted_in(sink, view, Form::Fixed)
+}
+
+/// Writes the full redraw of a picture in the given form, as [`write_contents_formatted`] does in
+/// the fixed form.
+///
+/// # Errors
+///
+/// Returns the sink's error. Part of the output may have been written by then.
+#[tactic(auto, unfolding(crate::specs::Redraw::redraw_in))]
+pub fn write_contents_formatted_in<S: Sink>(
+    sink: &mut S,
+    view: &View<'_>,
+    form: Form,
+) -> Result<(), S::Error>
+    ensures { OnOk result (S.text sink.new ≡ S.text sink.old ++ bytes_of_all (redraw_in form view.now)) }
 {
     HideCursor {
         state: view.hidden(),
@@ -31,7 +47,7 @@ pub fn write_contents_formatted<S: Sink>(sink: &mut S, view: &View<'_>) -> Resul
     ClearAttrs.write_buf(sink)?;
     ClearScreen.write_buf(sink)?;
     let blank = view.blanked();
-    write_script(sink, view, &blank, Form::Fixed, &mut ())
+    write_script(sink, view, &blank, form, &mut ())
 }
 
 /// Writes the output that turns the display of `prev` into the display of
@@ -57,7 +73,6 @@ pub fn write_contents_diff<S: Sink>(
 /// # Errors
 ///
 /// Returns the sink's error. Part of the output may have been written by then.
-#[tactic(auto, unfolding(crate::specs::Redraw::difference_in))]
 pub fn write_contents_diff_watched<S: Sink, W: RowWatch<S>>(
     sink: &mut S,
     view: &View<'_>,
@@ -68,8 +83,30 @@ pub fn write_contents_diff_watched<S: Sink, W: RowWatch<S>>(
     ensures text { OnOk result (S.text sink.new ≡ S.text sink.old ++ bytes_of_all (difference view.now prev.now)) }
     ensures nonempty { RefusedOnlyIfSome result (bytes_of_all (difference view.now prev.now)) }
 {
+    write_contents_diff_in(sink, view, prev, Form::Fixed, watch)
+}
+
+/// Writes the output that turns the display of `prev` into the display of `view` in the given form,
+/// as [`write_contents_diff`] does in the fixed form, and notifies `watch` after each row.
+///
+/// # Errors
+///
+/// Returns the sink's error. Part of the output may have been written by then.
+#[tactic(auto, unfolding(crate::specs::Redraw::difference_in))]
+pub fn write_contents_diff_in<S: Sink, W: RowWatch<S>>(
+    sink: &mut S,
+    view: &View<'_>,
+    prev: &View<'_>,
+    form: Form,
+    watch: &mut W,
+) -> Result<(), S::Error>
+    requires { SamePictureSize view.now prev.now }
+    ensures text { OnOk result
+        (S.text sink.new ≡ S.text sink.old ++ bytes_of_all (difference_in form view.now prev.now)) }
+    ensures nonempty { RefusedOnlyIfSome result (bytes_of_all (difference_in form view.now prev.now)) }
+{
     write_hiding(sink, view, prev)?;
-    write_script(sink, view, prev, Form::Fixed, watch)
+    write_script(sink, view, prev, form, watch)
 }
 
 /// Writes the sequence that hides or shows the cursor if the cursor is hidden

@@ -21,7 +21,7 @@ returns-clause-gathers g c =
       text =
           placed_gathered (g.S.Sink.text c.make_room.new.sink) _ c.make_room.new.self c.push_move.new.buffer
           c.push_attrs.new.buffer c.push_erase.new.buffer (move_ops pen pos.row pos.col) (attr_ops_in pen.form pen.attrs c.args.attrs)
-          (erase_run count (drop (pos.col + count) c.args.over.now.cells)) c.in_ok-make_room.ensures.text
+          (erase_run c.args.pen.now.form count (drop (pos.col + count) c.args.over.now.cells)) c.in_ok-make_room.ensures.text
           c.push_move.ensures.text (search rules) (search rules);
       grows = c.in_ok-make_room.ensures.grows;
       nonempty = search rules;

@@ -36,7 +36,7 @@ returns-in_err-gather_run g c =
     let n = c.run-count.result in
     let ys = c.args.over.now.cells in
     let attrs = c.attrs-attrs.result in
-    let bytes = bytes_of_all (placed_op c.args.pen.now row col attrs (erase_run n (drop (col + n) ys))) in
+    let bytes = bytes_of_all (placed_op c.args.pen.now row col attrs (erase_run c.args.pen.now.form n (drop (col + n) ys))) in
     record {
       leads = search rules;
       nonempty = search rules;

@@ -52,7 +52,7 @@ returns-clause-leads g c =
           (c.run-count.ensures.value ∙ ap (λ a. blank_run a (drop (col + 1) xs)) c.new-attrs.ensures) refl
           (c.in_ok-write_run.ensures.ops.text
           ∙ ap (λ a. text c.args.sink.now
-          ++ bytes_of_all (placed_op c.args.pen.now c.args.pos.row col a (erase_run (n + 1) (drop (col + (n + 1)) ys))))
+          ++ bytes_of_all (placed_op c.args.pen.now c.args.pos.row col a (erase_run c.args.pen.now.form (n + 1) (drop (col + (n + 1)) ys))))
           c.new-attrs.ensures)
           (c.in_ok-write_run.ensures.pen ∙ ap (λ a. pen_in c.args.pen.now.form c.args.pos.row col a) c.new-attrs.ensures)
           c.wrapped_after_erasure.ensures;
@@ -71,7 +71,7 @@ returns-in_err-write_run-clause-nonempty g c =
     let before = c.if-col-min.false in
     let n = c.run-count.result in
     let bytes = λ (a : Attrs).
-    bytes_of_all (placed_op c.args.pen.now row col a (erase_run (n + 1) (drop (col + (n + 1)) ys))) in
+    bytes_of_all (placed_op c.args.pen.now row col a (erase_run c.args.pen.now.form (n + 1) (drop (col + (n + 1)) ys))) in
     on_err c.from_residual.result
     (start_some (bytes default_attrs) _ _
     (half_erased row col n (n + 1) c.args.pen.now (pen_in c.args.pen.now.form row col default_attrs) c.args.flag.now
