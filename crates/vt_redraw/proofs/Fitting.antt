@@ -402,6 +402,20 @@ picture_fits self is colors =
     fit_rows self.width self.rows (recursion_from_All (IsRow self.width) self.rows is.rows)
     (recursion_from_All (λ row. All (λ cell. FitsAttrs (attrs_of cell)) row.cells) self.rows colors.cells)
 
+-- The columns of a valid picture are counted.
+pub picture_counted : (form : Form) (picture : Picture) → IsPicture picture → picture.width < 2 ^ 16 →
+    AllByRecursion (IsCountedRow form) picture.rows
+picture_counted form picture is small =
+    by_rows picture.rows (recursion_from_All (IsRow picture.width) picture.rows is.rows) where
+      by_rows : (rows : List RowValue) → AllByRecursion (IsRow picture.width) rows →
+          AllByRecursion (IsCountedRow form) rows
+      by_rows [] all = tt
+      by_rows (row ∷ rows) all =
+          let columns = all.0.columns in (
+            counted form (length row.cells) (omega (arith, columns, small)),
+            by_rows rows all.1,
+          )
+
 script_fits : (form : Form) (self prev : Picture) → IsPicture self →
     IsColoredPicture self → FitsAttrs prev.attrs → AllByRecursion (IsCountedRow form) prev.rows →
     AllFit (script_in form self prev)

@@ -18,7 +18,7 @@ use Rattle.vt_screen.proofs.Redrawing.{Becomes, drawing_read}
 use Rattle.vt_screen.proofs.Shown.{shown_colored, shown_is}
 
 -- A fresh terminal that displays the given picture.
-abbrev blank_reader : Picture → ScreenValue
+abbrev pub blank_reader : Picture → ScreenValue
 blank_reader picture = with_canvas (canvas.showing picture) (fresh_screen 1 1 0)
 
 shows : Terminal → Picture
@@ -28,7 +28,7 @@ same_some : {A : Type 0} (x y : A) → Some x ≡ Some y → x ≡ y
 same_some x y e = cc
 
 -- If one terminal displays two pictures after reading equal output, the pictures are equal.
-one_picture : (a b : Picture) (text more : List ℕ) (reader : ScreenValue) → Becomes a text reader →
+pub one_picture : (a b : Picture) (text more : List ℕ) (reader : ScreenValue) → Becomes a text reader →
     Becomes b more reader → text ≡ more → SamePictureSize a b → b.width ≡ reader.page.width → a ≡ b
 unfolding shows
 one_picture a b text more reader one two e size width =

@@ -6,6 +6,7 @@ pub mod Seen
 pub mod Redrawing
 pub mod Became
 pub mod EqualTexts
+pub mod Forms
 pub mod MovedRead
 pub mod ShiftedRead
 pub mod AnyRegion

@@ -1,5 +1,5 @@
 -- The display of a screen, and the effect of output on the terminals that read it.
-use Rattle.std.specs.Prelude.{◌≡◌, ◌≢◌, ℕ, ◌<◌, false, List, [], ◌∷◌, length, Option, Some, chars}
+use Rattle.std.specs.Prelude.{◌≡◌, ◌≢◌, ℕ, ◌<◌, Bool, true, false, List, [], ◌∷◌, length, Option, Some, chars}
 use Rattle.std.specs.List.{list_any}
 use Rattle.vt_cells.specs.Attrs.{default_attrs, Attrs}
 use Rattle.vt_cells.specs.Cell.{text_of}
@@ -8,8 +8,10 @@ use Rattle.vt_cells.specs.Op.{ClearAttrs, ChangeAttrs, bytes_of_all}
 use Rattle.vt_rows.specs.Cells.{at}
 use Rattle.vt_grid.specs.Page.{IsPlainPage}
 use Rattle.vt_redraw.specs.Picture.{Picture, SamePictureSize, Saved, picture_over, with_picture, with_saved}
-use Rattle.vt_redraw.specs.Redraw.{difference, redraw}
+use Rattle.vt_redraw.specs.Redraw.{difference, difference_in, redraw, redraw_in}
 use Rattle.vt_redraw.specs.Steady.{IsSteady}
+use Rattle.vt_redraw.specs.declared.form.Form.{Form}
+use Rattle.vt_redraw.specs.declared.form.Form.TheVariants.{Fixed, Portable}
 use Rattle.vt_scan.specs.Automaton.{start}
 use Rattle.vt_screen.specs.Reading.{terminal_after, terminal}
 use Rattle.vt_screen.specs.Screen.{ScreenValue, IsScreen, above_page, canvas_of, visible_row, visible_rows, with_canvas}
@@ -19,13 +21,26 @@ use Rattle.vt_screen.specs.Screen.{ScreenValue, IsScreen, above_page, canvas_of,
 abbrev pub display : ScreenValue → Picture
 display screen = picture_over (visible_rows screen) (canvas_of screen)
 
--- The output that redraws a screen's picture.
+-- The output that redraws a screen's picture in the given form.
+abbrev pub shown_text_in : Form → ScreenValue → List ℕ
+shown_text_in form screen = bytes_of_all (redraw_in form (display screen))
+
+-- The output that redraws a screen's picture, in the fixed form.
 abbrev pub shown_text : ScreenValue → List ℕ
 shown_text screen = bytes_of_all (redraw (display screen))
+
+-- The output that turns the picture of the screen `was` into the picture of `new`, in the given form.
+abbrev pub display_change_in : Form → (was new : ScreenValue) → List ℕ
+display_change_in form was new = bytes_of_all (difference_in form (display new) (display was))
 
 -- The output that turns the picture of the screen `was` into the picture of `new`.
 abbrev pub display_change : (was new : ScreenValue) → List ℕ
 display_change was new = bytes_of_all (difference (display new) (display was))
+
+-- The form of output, given whether it must be portable.
+abbrev pub form_of : (portable : Bool) → Form
+form_of true = Portable
+form_of false = Fixed
 
 -- No scrollback is displayed, so the displayed rows are the rows of the active page.
 abbrev pub ShowsOwnPage : ScreenValue → Type 0

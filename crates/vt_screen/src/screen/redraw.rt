@@ -27,15 +27,17 @@ ghost use Rattle.vt_screen.specs.Screen.{IsColored, IsScreen, ScreenValue, above
 ghost use Rattle.vt_screen.specs.Touched.{TouchesNear, TouchesOnly};
 ghost use Rattle.vt_screen.specs.Shown.{IsReader, IsReaderOfRows, IsSameIfEmpty, KeepsRest, Redraws, RedrawsFrom};
 ghost use Rattle.vt_screen.specs.Shown.{SetsAttrs, ShowsOwnPage, ShowsScrollback, TakesCursor, Turns, attributes_text, display};
-ghost use Rattle.vt_screen.specs.Shown.{display_change, shown_text};
+ghost use Rattle.vt_screen.specs.Shown.{display_change, form_of, shown_text, shown_text_in};
 ghost use Rattle.vt_screen.specs.TextResults.{IfText};
 
+use crate::redraw_options::{RedrawOptions, form_of};
 use crate::screen::Screen;
 use vt_cells::term::{BufWrite, ChangeAttrs, ClearAttrs};
 use vt_cells::{Attrs, Error, Sink};
 use vt_grid::Scrollback;
 use vt_redraw::{
-    View, is_steady, write_contents_diff, write_contents_formatted, write_cursor_state,
+    Form, View, is_steady, write_contents_diff, write_contents_formatted,
+    write_contents_formatted_in, write_cursor_state,
 };
 
 impl Screen {
@@ -169,6 +171,50 @@ impl Screen {
     {
         let mut text = String::new(self.alloc);
         match self.write_contents_formatted(&mut text) {
+            Ok(()) => Ok(text),
+            Err(_) => Err(Error::OutOfMemory),
+        }
+    }
+
+    /// Returns the escape sequences that redraw the screen on a plain terminal of the same size, as
+    /// [`Screen::contents_formatted`] does, but with options. What plain and steady mean is
+    /// explained there.
+    ///
+    /// With `portable`, the output avoids sequences on whose effects terminals disagree: attributes
+    /// change from bold to dim, or back, only after a reset; a cursor on the last column is moved
+    /// only to an absolute position; and a wide glyph is erased as a whole. Without it, the output
+    /// is that of `contents_formatted`.
+    ///
+    /// If this screen is steady, a plain terminal of its size that has read the output is plain and
+    /// displays this screen (clause `redraws`). Steady screens of the same size with different
+    /// displays have different output (clause `same`). Even if the screen is not steady, the output
+    /// contains only controls that draw (clause `controls`), and a plain terminal that has read it
+    /// is plain again (clause `again`).
+    ///
+    /// # Errors
+    ///
+    /// Returns `Error::OutOfMemory` if the output cannot be allocated.
+    ///
+    /// # Examples
+    ///
+    /// ```text
+    /// // a dim `a` and a bold `b` on a fresh screen, after the bytes that clear the terminal
+    /// let options = RedrawOptions { portable: true };
+    /// assert!(screen.contents_formatted_with(options)?.ends_with("\x1b[2ma\x1b[m\x1b[1mb"));
+    /// ```
+    pub fn contents_formatted_with(&self, options: RedrawOptions) -> Result<String, Error>
+        ensures colored { IsColored self.now }
+        ensures text { IfText result (λ text. text ≡ shown_text_in (form_of options.portable) self.now) }
+        ensures controls { IfText result (IsMadeOf drawing_finals drawing_controls) }
+        ensures again { IfText result KeepsPlain }
+        ensures redraws { IfText result (Redraws (display self.now) (IsReader (display self.now)) KeepsRest) }
+        ensures same { IfText result (λ text. (other : ScreenValue) → IsScreen other → IsColored other →
+            SamePictureSize (display self.now) (display other) → IsSteady (display self.now) → IsSteady (display other) →
+            text ≡ shown_text_in (form_of options.portable) other → display self.now ≡ display other) }
+        ensures memory { OnlyOutOfMemory result }
+    {
+        let mut text = String::new(self.alloc);
+        match self.write_contents_formatted_in(&mut text, form_of(options.portable)) {
             Ok(()) => Ok(text),
             Err(_) => Err(Error::OutOfMemory),
         }
@@ -349,6 +395,15 @@ impl Screen {
         ensures text { OnOk result (S.text sink.new ≡ S.text sink.old ++ shown_text self.now) }
     {
         write_contents_formatted(sink, &self.view())
+    }
+
+    /// Writes the redraw of the screen in the given form.
+    fn write_contents_formatted_in<S: Sink>(&self, sink: &mut S, form: Form) -> Result<(), S::Error>
+        ensures whole { IsScreen self.now }
+        ensures colored { IsColored self.now }
+        ensures text { OnOk result (S.text sink.new ≡ S.text sink.old ++ shown_text_in form self.now) }
+    {
+        write_contents_formatted_in(sink, &self.view(), form)
     }
 
     /// Writes the output of [`Screen::contents_formatted_reset`].
