@@ -90,6 +90,7 @@ pub fn send_short_difference<CB: Callbacks>(
     let options = DiffOptions {
         scroll: true,
         repeat: Repeat::Ascii,
+        portable: false,
     };
     let text = screen.contents_diff_with(prev, options)?;
     remote.process(text.as_bytes())?;

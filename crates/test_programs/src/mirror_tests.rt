@@ -64,6 +64,7 @@ enum Call {
 const OPTIONS: DiffOptions = DiffOptions {
     scroll: true,
     repeat: Repeat::Ascii,
+    portable: false,
 };
 
 /// The beginning of the text of a full update.

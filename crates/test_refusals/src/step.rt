@@ -11,6 +11,7 @@ use vt100::{DiffOptions, Error, Parser, Repeat, Screen};
 pub const BOTH: DiffOptions = DiffOptions {
     scroll: true,
     repeat: Repeat::Any,
+    portable: false,
 };
 
 /// A call on a parser or on its screen.

@@ -23,6 +23,8 @@ mod examples;
 #[cfg(test)]
 mod pages_tests;
 #[cfg(test)]
+mod portable_tests;
+#[cfg(test)]
 mod printing_tests;
 #[cfg(test)]
 mod readback;

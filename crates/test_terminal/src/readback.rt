@@ -3,7 +3,7 @@
 use crate::examples::{Pieces, feed, read_keeping};
 use std::alloc::Global;
 use std::test::Fail;
-use vt100::{Color, DiffOptions, Error, Screen};
+use vt100::{Color, DiffOptions, Error, RedrawOptions, Screen};
 
 /// A part of a screen's state, in which two screens of the same size can agree or differ.
 #[derive(Clone, Copy, PartialEq, Eq, Debug)]
@@ -119,6 +119,9 @@ pub(crate) enum Asked {
     /// The output of `contents_formatted`.
     Redraw,
 
+    /// The output of `contents_formatted_with` in the portable form.
+    Portable,
+
     /// The output of `cursor_state_formatted`.
     Cursor,
 
@@ -141,8 +144,9 @@ pub(crate) enum Asked {
 }
 
 /// All kinds of output of a screen.
-pub(crate) const ASKED: [Asked; 7] = [
+pub(crate) const ASKED: [Asked; 8] = [
     Asked::Redraw,
+    Asked::Portable,
     Asked::Cursor,
     Asked::Attributes,
     Asked::State,
@@ -156,6 +160,7 @@ impl Asked {
     pub(crate) fn text(self, screen: &Screen) -> Result<String, Error> {
         match self {
             Asked::Redraw => screen.contents_formatted(),
+            Asked::Portable => { screen.contents_formatted_with(RedrawOptions { portable: true }) }
             Asked::Cursor => screen.cursor_state_formatted(),
             Asked::Attributes => screen.attributes_formatted(),
             Asked::State => screen.state_formatted(),
@@ -198,7 +203,7 @@ impl Asked {
     /// output agrees with the screen in these parts, and is unchanged in all others.
     fn taken(self) -> &'static [Part] {
         match self {
-            Asked::Redraw | Asked::Reset | Asked::ResetOnAlternate => &PICTURE,
+            Asked::Redraw | Asked::Portable | Asked::Reset | Asked::ResetOnAlternate => &PICTURE,
             Asked::Cursor => &[Part::Cells, Part::Flags, Part::Cursor],
             Asked::Attributes => &[Part::Attributes],
             Asked::State => &PARTS,

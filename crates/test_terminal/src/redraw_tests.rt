@@ -6,7 +6,7 @@ use crate::examples::Step::{self, Text, View};
 use crate::examples::{
     Pieces, expect, expect_read_back_at_each_byte, feed, longest, read, read_keeping, taken,
 };
-use crate::readback::Asked::{self, Attributes, Cursor, Modes, Redraw, Reset, State};
+use crate::readback::Asked::{self, Attributes, Cursor, Modes, Portable, Redraw, Reset, State};
 use crate::readback::{ASKED, Change};
 use std::alloc::Global;
 use std::test::Fail;
@@ -70,10 +70,10 @@ const REDRAWN: [Example; 19] = [
 ];
 
 /// Returns the complete output that an example expects.
-fn wanted_text(alloc: Global, asked: Asked, text: &str) -> Result<String, Fail> {
+pub(crate) fn wanted_text(alloc: Global, asked: Asked, text: &str) -> Result<String, Fail> {
     let mut wanted = String::new(alloc);
     match asked {
-        Redraw => wanted.push_str(CLEAR)?,
+        Redraw | Portable => wanted.push_str(CLEAR)?,
         Reset => {
             wanted.push_str(WHOLE_REGION)?;
             wanted.push_str(CLEAR)?;

@@ -10,24 +10,28 @@ use vt100::{DiffOptions, Repeat};
 const REPEAT: DiffOptions = DiffOptions {
     scroll: false,
     repeat: Repeat::Any,
+    portable: false,
 };
 
 /// REP for printable ASCII characters, and no movements of rows or columns.
 const REPEAT_ASCII: DiffOptions = DiffOptions {
     scroll: false,
     repeat: Repeat::Ascii,
+    portable: false,
 };
 
 /// Both options.
 const BOTH: DiffOptions = DiffOptions {
     scroll: true,
     repeat: Repeat::Any,
+    portable: false,
 };
 
 /// Neither option.
 const NEITHER: DiffOptions = DiffOptions {
     scroll: false,
     repeat: Repeat::Never,
+    portable: false,
 };
 
 /// Input that fills four rows.

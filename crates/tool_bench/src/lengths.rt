@@ -11,6 +11,7 @@ use vt100::{DiffOptions, Parser, Repeat, Screen};
 pub const REPEATING: DiffOptions = DiffOptions {
     scroll: true,
     repeat: Repeat::Any,
+    portable: false,
 };
 
 /// The options of a diff that may move rows or columns first and may repeat ASCII characters with
@@ -18,6 +19,7 @@ pub const REPEATING: DiffOptions = DiffOptions {
 pub const REPEATING_ASCII: DiffOptions = DiffOptions {
     scroll: true,
     repeat: Repeat::Ascii,
+    portable: false,
 };
 
 /// The total length in bytes of each kind of diff between the same screens.

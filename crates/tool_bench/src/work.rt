@@ -108,6 +108,7 @@ fn repeating_difference(screen: &Screen, prev: &Screen) -> Result<usize, Error> 
     let options = DiffOptions {
         scroll: false,
         repeat: Repeat::Any,
+        portable: false,
     };
     Ok(screen.contents_diff_with(prev, options)?.len())
 }

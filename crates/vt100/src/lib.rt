@@ -50,4 +50,6 @@ pub use parser::Parser;
 pub use vt_cells::{
     Cell, Color, CursorStyle, Error, MouseProtocolEncoding, MouseProtocolMode, Sink,
 };
-pub use vt_screen::{Call, Callbacks, DiffOptions, Repeat, Rows, RowsDiff, RowsFormatted, Screen};
+pub use vt_screen::{
+    Call, Callbacks, DiffOptions, RedrawOptions, Repeat, Rows, RowsDiff, RowsFormatted, Screen,
+};

@@ -7,10 +7,11 @@ use Rattle.vt_cells.specs.declared.error.Error.{Error}
 use Rattle.vt_redraw.specs.Redraw.{difference}
 use Rattle.vt_screen.specs.Again.{KeepsPlain}
 use Rattle.vt_screen.specs.Diffs.{IsDiffWith, KeepsScreensPlain, RepeatsOnlyInRows, diff_controls, finals_with}
+use Rattle.vt_screen.specs.Diffs.{form_with, may_move}
 use Rattle.vt_screen.specs.MadeOf.{IsMadeOf, shortened_controls, shortened_finals}
 use Rattle.vt_screen.specs.Screen.{ScreenValue}
 use Rattle.vt_screen.specs.ShortMoves.{IsMovingOrRedraw}
-use Rattle.vt_screen.specs.Shown.{IsSameIfEmpty, RedrawsFrom, display, shown_text}
+use Rattle.vt_screen.specs.Shown.{IsSameIfEmpty, RedrawsFrom, display, display_change_in, shown_text}
 use Rattle.vt_screen.specs.TextResults.{IfText}
 use Rattle.vt_screen.specs.declared.diff_options.DiffOptions.{DiffOptions}
 use Rattle.vt100_c.specs.Texts.{IsDiffWithOptions, IsScrollingDiff}
@@ -46,11 +47,11 @@ scrolls screen prev answer (Err status) draws controls again shorter redraw redr
 pub with_options : (options : DiffOptions) (screen prev : ScreenValue) (answer : Result (String Global) Error)
     (made : Result (String Global) ℕ)
     → IfText answer (IsDiffWith options prev screen)
-    → IfText answer (IsMadeOf (finals_with options.repeat options.scroll) (diff_controls options.scroll))
+    → IfText answer (IsMadeOf (finals_with options.repeat (may_move options)) (diff_controls (may_move options)))
     → IfText answer (RepeatsOnlyInRows prev screen)
     → IfText answer KeepsScreensPlain
-    → IfText answer (λ text. length text ≤ length (bytes_of_all (difference (display screen) (display prev))))
-    → (IsTrue options.scroll → IfText answer (λ text. length text ≤ length (shown_text screen)))
+    → IfText answer (λ text. length text ≤ length (display_change_in (form_with options) prev screen))
+    → (IsTrue (may_move options) → IfText answer (λ text. length text ≤ length (shown_text screen)))
     → IfText answer (RedrawsFrom prev screen)
     → IfText answer (IsSameIfEmpty prev screen)
     → IfText answer (λ text. display screen ≡ display prev → text ≡ [])
@@ -58,11 +59,11 @@ pub with_options : (options : DiffOptions) (screen prev : ScreenValue) (answer :
     → IfOk made (λ text. IsDiffWithOptions options screen prev (string_bytes text))
 with_options options screen prev answer (Ok text) draws controls rows again shorter redraw redraws empty none is = record {
   draws = carried (IsDiffWith options prev screen) answer text draws is;
-  controls = carried (IsMadeOf (finals_with options.repeat options.scroll) (diff_controls options.scroll)) answer text
-      controls is;
+  controls = carried (IsMadeOf (finals_with options.repeat (may_move options)) (diff_controls (may_move options)))
+      answer text controls is;
   rows = carried (RepeatsOnlyInRows prev screen) answer text rows is;
   again = carried KeepsScreensPlain answer text again is;
-  shorter = carried (λ t. length t ≤ length (bytes_of_all (difference (display screen) (display prev)))) answer text
+  shorter = carried (λ t. length t ≤ length (display_change_in (form_with options) prev screen)) answer text
       shorter is;
   redraw = λ moves. carried (λ t. length t ≤ length (shown_text screen)) answer text (redraw moves) is;
   redraws = carried (RedrawsFrom prev screen) answer text redraws is;

@@ -8,6 +8,7 @@ use Rattle.vt_screen.specs.AnyRegion.{reset_text}
 use Rattle.vt_screen.specs.Capture.{basic_texts}
 use Rattle.vt_screen.specs.Contents.{between_of, contents_of}
 use Rattle.vt_screen.specs.Diffs.{IsDiffWith, KeepsScreensPlain, RepeatsOnlyInRows, diff_controls, finals_with}
+use Rattle.vt_screen.specs.Diffs.{form_with, may_move}
 use Rattle.vt_screen.specs.declared.diff_options.DiffOptions.{DiffOptions}
 use Rattle.vt_screen.specs.declared.repeat.Repeat.{Repeat}
 use Rattle.vt_screen.specs.declared.repeat.Repeat.TheVariants.{Never, Ascii, Any}
@@ -15,7 +16,8 @@ use Rattle.vt_screen.specs.InputTexts.{input_change, input_text}
 use Rattle.vt_screen.specs.MadeOf.{IsMadeOf, shortened_controls, shortened_finals}
 use Rattle.vt_screen.specs.Screen.{ScreenValue, visible_rows}
 use Rattle.vt_screen.specs.ShortMoves.{IsMovingOrRedraw}
-use Rattle.vt_screen.specs.Shown.{IsSameIfEmpty, RedrawsFrom, attributes_text, display, shown_text}
+use Rattle.vt_screen.specs.Shown.{IsSameIfEmpty, RedrawsFrom, attributes_text, display, display_change_in}
+use Rattle.vt_screen.specs.Shown.{shown_text}
 use Rattle.vt_screen.specs.States.{state_change, state_text}
 use Rattle.vt100_c.specs.Due.{HoldBoth, HoldsScreen, any_screen, any_screens, sizes_status, source_at, start_status, text_at}
 use Rattle.vt100_c.specs.Status.{ok, out_of_memory}
@@ -69,7 +71,7 @@ repeat_of bits = if bits / 2 % 2 == 1 then Any else (if bits / 4 % 2 == 1 then A
 
 -- The options that the bits of a number select: bit 0 allows moving rows or columns, and bits 1 and 2 allow REP.
 abbrev pub options_of : ℕ → DiffOptions
-options_of bits = record { scroll = bits % 2 == 1; repeat = repeat_of bits }
+options_of bits = record { scroll = bits % 2 == 1; repeat = repeat_of bits; portable = false }
 
 -- The text is a diff from the display of `prev` to the display of `screen` with the given options. A plain terminal that
 -- displays `prev` and reads the text displays `screen`, if that screen is steady. The text is never longer than the diff
@@ -78,11 +80,11 @@ options_of bits = record { scroll = bits % 2 == 1; repeat = repeat_of bits }
 -- display, and if `screen` is steady, only then.
 pub record IsDiffWithOptions (options : DiffOptions) (screen prev : ScreenValue) (text : List ℕ) : Type 0 where
   pub draws : IsDiffWith options prev screen text
-  pub controls : IsMadeOf (finals_with options.repeat options.scroll) (diff_controls options.scroll) text
+  pub controls : IsMadeOf (finals_with options.repeat (may_move options)) (diff_controls (may_move options)) text
   pub rows : RepeatsOnlyInRows prev screen text
   pub again : KeepsScreensPlain text
-  pub shorter : length text ≤ length (bytes_of_all (difference (display screen) (display prev)))
-  pub redraw : IsTrue options.scroll → length text ≤ length (shown_text screen)
+  pub shorter : length text ≤ length (display_change_in (form_with options) prev screen)
+  pub redraw : IsTrue (may_move options) → length text ≤ length (shown_text screen)
   pub redraws : RedrawsFrom prev screen text
   pub empty : IsSameIfEmpty prev screen text
   pub none : display screen ≡ display prev → text ≡ []
@@ -117,6 +119,8 @@ HasDifference between.State screen prev =
     (0 < length (state_change prev screen)) × ¬ ((display screen ≡ display prev) × (screen.modes ≡ prev.modes))
 HasDifference between.InputMode screen prev =
     (0 < length (input_change prev.modes screen.modes)) × ¬ (screen.modes ≡ prev.modes)
+HasDifference (between.With options) screen prev =
+    HasChange (display_change_in (form_with options) prev screen) screen prev
 HasDifference _ screen prev = HasChange (bytes_of_all (difference (display screen) (display prev))) screen prev
 
 -- ---- the effects of calls on handles

@@ -302,6 +302,7 @@ pub(crate) fn options_in(bits: u8) -> DiffOptions
     DiffOptions {
         scroll: bits % 2 == 1,
         repeat: repeat_in(bits),
+        portable: false,
     }
 }
 

@@ -5,6 +5,7 @@ use Rattle.std.specs.Prelude.{IsTrue}
 use Rattle.std.specs.Char.{encode_utf8}
 use Rattle.std.specs.List.{AllByRecursion, flat_map}
 use Rattle.vt_redraw.specs.Picture.{Picture}
+use Rattle.vt_redraw.specs.declared.form.Form.{Form}
 use Rattle.vt_scan.specs.Automaton.{start}
 use Rattle.vt_screen.specs.Again.{IsNoCallback, KeepsAside, LeavesPlain}
 use Rattle.vt_screen.specs.CallsOfRun.{screen_after_all, screen_in}
@@ -97,14 +98,14 @@ of_may_repeat Any was plain text is = is
 
 -- ---- the clauses of a diff with options
 
-pub diff_again : (repeat : Repeat) (scroll : Bool) (was new : ScreenValue) (plain text : List ℕ) →
-    IsPlainDiff scroll was new plain → MayRepeat repeat was plain text → KeepsScreensPlain text
-diff_again repeat scroll was new plain text is may reader sound ready =
+pub diff_again : (repeat : Repeat) (form : Form) (scroll : Bool) (was new : ScreenValue) (plain text : List ℕ) →
+    IsPlainDiff form scroll was new plain → MayRepeat repeat was plain text → KeepsScreensPlain text
+diff_again repeat form scroll was new plain text is may reader sound ready =
     repeated_leaves plain text reader ((of_may_repeat repeat was plain text may).same reader sound) (is.again reader ready)
 
-pub diff_redraws : (repeat : Repeat) (scroll : Bool) (was new : ScreenValue) (plain text : List ℕ) →
-    IsPlainDiff scroll was new plain → MayRepeat repeat was plain text → RedrawsFrom was new text
-diff_redraws repeat scroll was new plain text is may =
+pub diff_redraws : (repeat : Repeat) (form : Form) (scroll : Bool) (was new : ScreenValue) (plain text : List ℕ) →
+    IsPlainDiff form scroll was new plain → MayRepeat repeat was plain text → RedrawsFrom was new text
+diff_redraws repeat form scroll was new plain text is may =
     repeated_redraws was new plain text (of_may_repeat repeat was plain text may).same is.redraws
 
 reader_with_room : (was new reader : ScreenValue) → IsReaderOf (display new) (display was) reader →
@@ -114,9 +115,9 @@ reader_with_room was new reader is =
     let column = ap (λ (p : Picture). p.column) is.shows in
     record { sound = is.is.sound; width_is = width; columns = λ some. omega (arith, some, column) }
 
-pub diff_rows : (repeat : Repeat) (scroll : Bool) (was new : ScreenValue) (plain text : List ℕ) →
-    IsPlainDiff scroll was new plain → MayRepeat repeat was plain text → RepeatsOnlyInRows was new text
-diff_rows repeat scroll was new plain text is may reader reads =
+pub diff_rows : (repeat : Repeat) (form : Form) (scroll : Bool) (was new : ScreenValue) (plain text : List ℕ) →
+    IsPlainDiff form scroll was new plain → MayRepeat repeat was plain text → RepeatsOnlyInRows was new text
+diff_rows repeat form scroll was new plain text is may reader reads =
     (of_may_repeat repeat was plain text may).rows (made_none scroll plain is.controls) reader
     (reader_with_room was new reader reads)
 
@@ -124,17 +125,17 @@ nothing : (xs : List ℕ) → length xs ≤ 0 → xs ≡ []
 nothing [] h = refl
 nothing (x ∷ xs) h = absurd (omega (arith, h))
 
-pub diff_none : (repeat : Repeat) (scroll : Bool) (was new : ScreenValue) (plain text : List ℕ) →
-    IsPlainDiff scroll was new plain → MayRepeat repeat was plain text → display new ≡ display was → text ≡ []
-diff_none repeat scroll was new plain text is may same =
+pub diff_none : (repeat : Repeat) (form : Form) (scroll : Bool) (was new : ScreenValue) (plain text : List ℕ) →
+    IsPlainDiff form scroll was new plain → MayRepeat repeat was plain text → display new ≡ display was → text ≡ []
+diff_none repeat form scroll was new plain text is may same =
     let none = ap length (is.none same) in
     let less = (of_may_repeat repeat was plain text may).shorter in
     nothing text (omega (arith, none, less))
 
-pub diff_redraw : (repeat : Repeat) (scroll : Bool) (was new : ScreenValue) (plain text : List ℕ) →
-    IsPlainDiff scroll was new plain → MayRepeat repeat was plain text → IsTrue scroll →
+pub diff_redraw : (repeat : Repeat) (form : Form) (scroll : Bool) (was new : ScreenValue) (plain text : List ℕ) →
+    IsPlainDiff form scroll was new plain → MayRepeat repeat was plain text → IsTrue scroll →
     length text ≤ length (shown_text new)
-diff_redraw repeat scroll was new plain text is may scrolls =
+diff_redraw repeat form scroll was new plain text is may scrolls =
     let long = is.redraw scrolls in
     let less = (of_may_repeat repeat was plain text may).shorter in
     omega (arith, long, less)
@@ -151,16 +152,16 @@ runs_nothing (run ∷ runs) rest plain text full short empty =
     let e = length-append (encode_utf8 run.character) (repeat_text run.count) in
     absurd (omega (arith, a, b, c, d, e))
 
-pub diff_empty : (repeat : Repeat) (scroll : Bool) (was new : ScreenValue) (plain text : List ℕ) →
-    IsPlainDiff scroll was new plain → MayRepeat repeat was plain text → IsSameIfEmpty was new text
-diff_empty repeat scroll was new plain text is may steady empty =
+pub diff_empty : (repeat : Repeat) (form : Form) (scroll : Bool) (was new : ScreenValue) (plain text : List ℕ) →
+    IsPlainDiff form scroll was new plain → MayRepeat repeat was plain text → IsSameIfEmpty was new text
+diff_empty repeat form scroll was new plain text is may steady empty =
     let has = (of_may_repeat repeat was plain text may).runs in
     is.empty steady (runs_nothing has.runs has.rest plain text has.in_full has.in_short empty)
 
-pub diff_made : (repeat : Repeat) (scroll : Bool) (was new : ScreenValue) (plain text : List ℕ) →
-    IsPlainDiff scroll was new plain → MayRepeat repeat was plain text → KeepsPieces plain text →
+pub diff_made : (repeat : Repeat) (form : Form) (scroll : Bool) (was new : ScreenValue) (plain text : List ℕ) →
+    IsPlainDiff form scroll was new plain → MayRepeat repeat was plain text → KeepsPieces plain text →
     IsMadeOf (finals_with repeat scroll) (diff_controls scroll) text
-diff_made Never scroll was new plain text is may keeps =
+diff_made Never form scroll was new plain text is may keeps =
     subst (IsMadeOf (diff_finals scroll) (diff_controls scroll)) (sym may) is.controls
-diff_made Ascii scroll was new plain text is may keeps = keeps scroll is.controls
-diff_made Any scroll was new plain text is may keeps = keeps scroll is.controls
+diff_made Ascii form scroll was new plain text is may keeps = keeps scroll is.controls
+diff_made Any form scroll was new plain text is may keeps = keeps scroll is.controls

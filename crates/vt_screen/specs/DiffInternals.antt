@@ -4,15 +4,16 @@ use Rattle.vt_screen.specs.Again.{KeepsPlain}
 use Rattle.vt_screen.specs.Diffs.{IsDiff, diff_controls, diff_finals}
 use Rattle.vt_screen.specs.MadeOf.{IsMadeOf}
 use Rattle.vt_screen.specs.Screen.{ScreenValue}
-use Rattle.vt_screen.specs.Shown.{IsSameIfEmpty, RedrawsFrom, display, display_change, shown_text}
+use Rattle.vt_screen.specs.Shown.{IsSameIfEmpty, RedrawsFrom, display, display_change_in, shown_text}
+use Rattle.vt_redraw.specs.declared.form.Form.{Form}
 
--- The output is a diff without REP, and has all the properties that the clauses of both `contents_diff` and
+-- The output is a diff without REP in the given form, and has all the properties that the clauses of both `contents_diff` and
 -- `contents_diff_scrolling` state.
-pub record IsPlainDiff (scroll : Bool) (was new : ScreenValue) (text : List ℕ) : Type 0 where
-  pub diff : IsDiff scroll was new text
+pub record IsPlainDiff (form : Form) (scroll : Bool) (was new : ScreenValue) (text : List ℕ) : Type 0 where
+  pub diff : IsDiff form scroll was new text
   pub controls : IsMadeOf (diff_finals scroll) (diff_controls scroll) text
   pub again : KeepsPlain text
-  pub shorter : length text ≤ length (display_change was new)
+  pub shorter : length text ≤ length (display_change_in form was new)
   pub redraw : IsTrue scroll → length text ≤ length (shown_text new)
   pub redraws : RedrawsFrom was new text
   pub empty : IsSameIfEmpty was new text

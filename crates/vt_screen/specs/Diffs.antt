@@ -1,20 +1,31 @@
 -- Diffs with options: whether the diff may move rows and columns, and which characters may be repeated with REP.
-use Rattle.std.specs.Prelude.{◌≡◌, ◌-◌, ℕ, Bool, true, false, List, ◌∷◌}
+use Rattle.std.specs.Prelude.{◌≡◌, ◌-◌, ℕ, Bool, true, false, List, ◌∷◌, if◌then◌else◌}
 use Rattle.vt_screen.specs.Again.{LeavesPlain}
 use Rattle.vt_screen.specs.MadeOf.{IsMadeOf, drawing_controls, drawing_finals, shortened_controls, shortened_finals}
 use Rattle.vt_screen.specs.Repeating.{Repeats, RepeatsInRows}
 use Rattle.vt_screen.specs.Screen.{IsScreen, ScreenValue}
 use Rattle.vt_screen.specs.ShortMoves.{IsMovingOrRedraw}
-use Rattle.vt_screen.specs.Shown.{IsPlain, IsReaderOf, display, display_change}
+use Rattle.vt_screen.specs.Shown.{IsPlain, IsReaderOf, display, display_change, display_change_in, form_of}
+use Rattle.vt_redraw.specs.declared.form.Form.{Form}
+use Rattle.vt_redraw.specs.declared.form.Form.TheVariants.{Fixed, Portable}
 use Rattle.vt_screen.specs.declared.diff_options.DiffOptions.{DiffOptions}
 use Rattle.vt_screen.specs.declared.repeat.Repeat.{Repeat}
 use Rattle.vt_screen.specs.declared.repeat.Repeat.TheVariants.{Never}
 
--- The output is a diff from the screen `was` to the screen `new`. If `scroll` is true, it may move rows or columns, or
--- be the redraw of `new`; otherwise, it is the diff that moves neither.
-abbrev pub IsDiff : (scroll : Bool) → (was new : ScreenValue) → List ℕ → Type 0
-IsDiff true was new text = IsMovingOrRedraw (display new) (display was) text
-IsDiff false was new text = text ≡ display_change was new
+-- Whether a diff with the given options may move rows or columns. Portable diffs move none.
+abbrev pub may_move : DiffOptions → Bool
+may_move options = if options.portable then false else options.scroll
+
+-- The form of a diff with the given options.
+abbrev pub form_with : DiffOptions → Form
+form_with options = form_of options.portable
+
+-- The output is a diff from the screen `was` to the screen `new` in the given form. In the fixed form, it may move rows
+-- or columns, or be the redraw of `new`, if `scroll` is true. Otherwise, it is the diff that moves neither.
+abbrev pub IsDiff : Form → (scroll : Bool) → (was new : ScreenValue) → List ℕ → Type 0
+IsDiff Fixed true was new text = IsMovingOrRedraw (display new) (display was) text
+IsDiff Fixed false was new text = text ≡ display_change was new
+IsDiff Portable scroll was new text = text ≡ display_change_in Portable was new
 
 -- The final bytes of the control sequences with numeric parameters that may occur in a diff without REP, given whether
 -- the diff may move rows or columns.
@@ -43,8 +54,8 @@ MayRepeat repeat was plain text = Repeats repeat was.page.width (was.page.width 
 -- sequences, by writing runs with REP if the options allow it.
 pub record IsDiffWith (options : DiffOptions) (was new : ScreenValue) (text : List ℕ) : Type 0 where
   pub plain : List ℕ
-  pub diff : IsDiff options.scroll was new plain
-  pub controls : IsMadeOf (diff_finals options.scroll) (diff_controls options.scroll) plain
+  pub diff : IsDiff (form_with options) (may_move options) was new plain
+  pub controls : IsMadeOf (diff_finals (may_move options)) (diff_controls (may_move options)) plain
   pub repeats : MayRepeat options.repeat was plain text
 
 -- While a plain terminal that displays the screen `was` reads the output, each REP repeats its character only within

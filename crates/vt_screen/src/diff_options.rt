@@ -5,9 +5,10 @@ ghost use Rattle.vt_screen.specs.declared.repeat.Repeat.TheVariants.{Never};
 
 use crate::repeat::Repeat;
 
-/// Options that allow a diff to move rows or columns, or to write runs of a character with REP.
+/// Options that allow a diff to move rows or columns or to write runs of a character with REP, or
+/// that make it portable.
 ///
-/// By default, neither is allowed: `Screen::contents_diff_with` then returns what
+/// By default, none of these applies: `Screen::contents_diff_with` then returns what
 /// `Screen::contents_diff` returns.
 #[derive(Clone, Copy, PartialEq, Eq, Debug)]
 pub struct DiffOptions {
@@ -17,15 +18,20 @@ pub struct DiffOptions {
 
     /// The characters whose runs may be written with REP (ECMA-48, 8.3.103).
     pub repeat: Repeat,
+
+    /// Whether the diff avoids sequences on whose effects terminals disagree. A portable diff moves
+    /// no rows or columns, whatever `scroll` is.
+    pub portable: bool,
 }
 
 impl Default for DiffOptions {
     fn default() -> Self
-        ensures { result ≡ record { scroll = false; repeat = Never } }
+        ensures { result ≡ record { scroll = false; repeat = Never; portable = false } }
     {
         DiffOptions {
             scroll: false,
             repeat: Repeat::Never,
+            portable: false,
         }
     }
 }

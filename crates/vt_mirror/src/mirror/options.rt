@@ -19,6 +19,8 @@ impl Mirror {
     /// Returns the viewer's next update, as [`update`](Mirror::update) does, with the given options
     /// for a diff.
     ///
+    /// The option `portable` has no effect on updates.
+    ///
     /// With `scroll`, the update is the one that [`update_scrolling`](Mirror::update_scrolling)
     /// would return. Runs of the one-column characters that `repeat` allows may be written with REP
     /// (ECMA-48, 8.3.103) in a diff, as with `Screen::contents_diff_with`. Some terminals ignore

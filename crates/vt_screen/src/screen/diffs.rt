@@ -1,15 +1,16 @@
 //! Diffs with options.
 
-ghost use Rattle.std.specs.Prelude.{◌≡◌, ◌≤◌, [], IsOk, IsTrue, length, string_bytes};
+ghost use Rattle.std.specs.Prelude.{◌≡◌, ◌≤◌, [], IsOk, false, IsTrue, length, string_bytes};
 ghost use Rattle.vt_cells.specs.Refusals.{OnlyOutOfMemory};
 ghost use Rattle.vt_grid.specs.Page.{SameSize};
 ghost use Rattle.vt_redraw.specs.Refusals.{RefusedOnlyIfSome};
 ghost use Rattle.vt_screen.specs.DiffInternals.{IsPlainDiff};
 ghost use Rattle.vt_screen.specs.Diffs.{IsDiffWith, KeepsScreensPlain, MayRepeat, RepeatsOnlyInRows};
-ghost use Rattle.vt_screen.specs.Diffs.{diff_controls, finals_with};
+ghost use Rattle.vt_screen.specs.Diffs.{diff_controls, finals_with, form_with, may_move};
+ghost use Rattle.vt_redraw.specs.declared.form.Form.TheVariants.{Fixed, Portable};
 ghost use Rattle.vt_screen.specs.MadeOf.{IsMadeOf};
 ghost use Rattle.vt_screen.specs.RepeatInternals.{KeepsPieces};
-ghost use Rattle.vt_screen.specs.Shown.{IsSameIfEmpty, RedrawsFrom, display, display_change, shown_text};
+ghost use Rattle.vt_screen.specs.Shown.{IsSameIfEmpty, RedrawsFrom, display, display_change, display_change_in, shown_text};
 ghost use Rattle.vt_screen.specs.TextResults.{IfText};
 
 use crate::diff_options::DiffOptions;
@@ -17,6 +18,7 @@ use crate::repeat::Repeat;
 use crate::repeats::with_repeats;
 use crate::screen::Screen;
 use vt_cells::Error;
+use vt_redraw::Form;
 
 impl Screen {
     /// Returns the escape sequences that turn the display of `prev` into the display of this
@@ -30,11 +32,15 @@ impl Screen {
     /// characters, so allow only what the receiving terminal performs. With `Repeat::Never`, the
     /// output is that of `contents_diff` or, with `scroll`, of `contents_diff_scrolling`.
     ///
+    /// With `portable`, the output avoids sequences on whose effects terminals disagree, as that of
+    /// [`Screen::contents_formatted_with`] does, and moves no rows or columns.
+    ///
     /// The output contains only controls that draw and, if `repeat` allows any character, REP
     /// (clause `controls`).
     ///
-    /// The output is never longer than that of `contents_diff` (clause `shorter`) or, with `scroll`,
-    /// than the full redraw (clause `redraw`). Every terminal in ground state takes the same steps
+    /// The output is never longer than that of `contents_diff` or, with `portable`, than its
+    /// portable form (clause `shorter`). If rows or columns may be moved, it is never longer than
+    /// the full redraw either (clause `redraw`). Every terminal in ground state takes the same steps
     /// for the output with REP as for the output with the runs written out (clause `text`). On a
     /// plain terminal that displays `prev`, the characters of each REP fit in the row (clause
     /// `rows`); terminals differ in how they treat characters that do not fit.
@@ -55,28 +61,64 @@ impl Screen {
     ///
     /// ```text
     /// // ten `-` on a blank screen: the character, and nine repetitions
-    /// let options = DiffOptions { scroll: false, repeat: Repeat::Ascii };
+    /// let options = DiffOptions { repeat: Repeat::Ascii, ..DiffOptions::default() };
     /// assert_eq!(screen.contents_diff_with(&blank, options)?, "-\x1b[9b");
     /// ```
     pub fn contents_diff_with(&self, prev: &Screen, options: DiffOptions) -> Result<String, Error>
         requires { SameSize self.now.page prev.now.page }
         ensures text { IfText result (IsDiffWith options prev.now self.now) }
         ensures controls { IfText result
-            (IsMadeOf (finals_with options.repeat options.scroll) (diff_controls options.scroll)) }
+            (IsMadeOf (finals_with options.repeat (may_move options)) (diff_controls (may_move options))) }
         ensures rows { IfText result (RepeatsOnlyInRows prev.now self.now) }
         ensures again { IfText result KeepsScreensPlain }
-        ensures shorter { IfText result (λ text. length text ≤ length (display_change prev.now self.now)) }
-        ensures redraw { IsTrue options.scroll → IfText result (λ text. length text ≤ length (shown_text self.now)) }
+        ensures shorter { IfText result
+            (λ text. length text ≤ length (display_change_in (form_with options) prev.now self.now)) }
+        ensures redraw { IsTrue (may_move options) → IfText result (λ text. length text ≤ length (shown_text self.now)) }
         ensures redraws { IfText result (RedrawsFrom prev.now self.now) }
         ensures empty { IfText result (IsSameIfEmpty prev.now self.now) }
         ensures none { IfText result (λ text. display self.now ≡ display prev.now → text ≡ []) }
         ensures memory { OnlyOutOfMemory result }
-        ensures nonempty { RefusedOnlyIfSome result (display_change prev.now self.now) }
+        ensures nonempty { RefusedOnlyIfSome result (display_change_in (form_with options) prev.now self.now) }
         ensures never { display self.now ≡ display prev.now → IsOk result }
     {
-        let plain = self.diff_without_repeats(prev, options.scroll)?;
+        let plain = self.plain_diff(prev, options)?;
         let text = self.diff_with_repeats(prev, plain, options.repeat)?;
         Ok(text)
+    }
+
+    /// Returns the diff with the given options, but without REP.
+    ///
+    /// # Errors
+    ///
+    /// Returns `Error::OutOfMemory` if the output cannot be allocated.
+    fn plain_diff(&self, prev: &Screen, options: DiffOptions) -> Result<String, Error>
+        requires { SameSize self.now.page prev.now.page }
+        ensures text { IfText result (IsPlainDiff (form_with options) (may_move options) prev.now self.now) }
+        ensures memory { OnlyOutOfMemory result }
+        ensures nonempty { RefusedOnlyIfSome result (display_change_in (form_with options) prev.now self.now) }
+    {
+        if options.portable {
+            return self.portable_diff(prev);
+        }
+        self.diff_without_repeats(prev, options.scroll)
+    }
+
+    /// Returns the portable form of the ordinary diff.
+    ///
+    /// # Errors
+    ///
+    /// Returns `Error::OutOfMemory` if the output cannot be allocated.
+    fn portable_diff(&self, prev: &Screen) -> Result<String, Error>
+        requires { SameSize self.now.page prev.now.page }
+        ensures text { IfText result (IsPlainDiff Portable false prev.now self.now) }
+        ensures memory { OnlyOutOfMemory result }
+        ensures nonempty { RefusedOnlyIfSome result (display_change_in Portable prev.now self.now) }
+    {
+        let mut text = String::new(self.alloc);
+        match self.write_contents_diff_in(&mut text, prev, Form::Portable) {
+            Ok(()) => Ok(text),
+            Err(_) => Err(Error::OutOfMemory),
+        }
     }
 
     /// Returns the output that turns the display of `prev` into that of this screen: the scrolling
@@ -88,7 +130,7 @@ impl Screen {
     /// Returns `Error::OutOfMemory` if the output cannot be allocated.
     fn diff_without_repeats(&self, prev: &Screen, scroll: bool) -> Result<String, Error>
         requires { SameSize self.now.page prev.now.page }
-        ensures text { IfText result (IsPlainDiff scroll prev.now self.now) }
+        ensures text { IfText result (IsPlainDiff Fixed scroll prev.now self.now) }
         ensures memory { OnlyOutOfMemory result }
         ensures nonempty { RefusedOnlyIfSome result (display_change prev.now self.now) }
     {

@@ -27,7 +27,7 @@ ghost use Rattle.vt_screen.specs.Screen.{IsColored, IsScreen, ScreenValue, above
 ghost use Rattle.vt_screen.specs.Touched.{TouchesNear, TouchesOnly};
 ghost use Rattle.vt_screen.specs.Shown.{IsReader, IsReaderOfRows, IsSameIfEmpty, KeepsRest, Redraws, RedrawsFrom};
 ghost use Rattle.vt_screen.specs.Shown.{SetsAttrs, ShowsOwnPage, ShowsScrollback, TakesCursor, Turns, attributes_text, display};
-ghost use Rattle.vt_screen.specs.Shown.{display_change, form_of, shown_text, shown_text_in};
+ghost use Rattle.vt_screen.specs.Shown.{display_change, display_change_in, form_of, shown_text, shown_text_in};
 ghost use Rattle.vt_screen.specs.TextResults.{IfText};
 
 use crate::redraw_options::{RedrawOptions, form_of};
@@ -36,7 +36,7 @@ use vt_cells::term::{BufWrite, ChangeAttrs, ClearAttrs};
 use vt_cells::{Attrs, Error, Sink};
 use vt_grid::Scrollback;
 use vt_redraw::{
-    Form, View, is_steady, write_contents_diff, write_contents_formatted,
+    Form, View, is_steady, write_contents_diff, write_contents_diff_in, write_contents_formatted,
     write_contents_formatted_in, write_cursor_state,
 };
 
@@ -432,6 +432,24 @@ impl Screen {
         ensures nonempty { RefusedOnlyIfSome result (display_change prev.now self.now) }
     {
         write_contents_diff(sink, &self.view(), &prev.view())
+    }
+
+    /// Writes the diff from `prev` to this screen in the given form.
+    pub(super) fn write_contents_diff_in<S: Sink>(
+        &self,
+        sink: &mut S,
+        prev: &Screen,
+        form: Form,
+    ) -> Result<(), S::Error>
+        requires { SameSize self.now.page prev.now.page }
+        ensures whole { IsScreen self.now }
+        ensures colored { IsColored self.now }
+        ensures other { IsScreen prev.now }
+        ensures other_colored { IsColored prev.now }
+        ensures text { OnOk result (S.text sink.new ≡ S.text sink.old ++ display_change_in form prev.now self.now) }
+        ensures nonempty { RefusedOnlyIfSome result (display_change_in form prev.now self.now) }
+    {
+        write_contents_diff_in(sink, &self.view(), &prev.view(), form, &mut ())
     }
 
     /// Writes the output of [`Screen::cursor_state_formatted`].

@@ -1,0 +1,76 @@
+//! Tests of portable redraws and diffs, which avoid sequences on whose effects terminals disagree.
+
+use crate::difference_tests::{Example, expect_at_each_cut};
+use crate::examples::Step::Text;
+use crate::readback::Asked::Portable;
+use crate::readback::Change;
+use crate::redraw_tests::{Example as Redrawn, expect_at_each_cut as expect_redraw, wanted_text};
+use std::test::Fail;
+use vt100::{DiffOptions, Repeat};
+
+/// Portable diffs without REP.
+const PORTABLE: DiffOptions = DiffOptions {
+    scroll: false,
+    repeat: Repeat::Never,
+    portable: true,
+};
+
+#[rattlefmt::skip]
+const REDRAWN: [Redrawn; 4] = [
+    // A wrap is pending on a row whose last cell is blank. Terminals disagree on where the cursor
+    // is then, so it is moved to a position.
+    (
+        (2, 5), 0, &[Text("abcd\r\nxxxxx\x1b[A")],
+        Portable, "abcd\r\nxxxxx\x1b[1;5H \x1b7\x1b[1;5H\x1b[X\x1b8",
+    ),
+
+    // Many terminals do not clear dim when bold is set, nor the reverse.
+    ((2, 5), 0, &[Text("\x1b[2ma\x1b[22;1mb")], Portable, "\x1b[2ma\x1b[m\x1b[1mb"),
+    (
+        (2, 5), 0, &[Text("\x1b[1;31ma\x1b[22;2mb\x1b[22mc")],
+        Portable, "\x1b[31;1ma\x1b[m\x1b[31;2mb\x1b[22mc",
+    ),
+
+    // A blank at the beginning of a row below a wrapped row.
+    ((3, 4), 0, &[Text("abcdx\x1b[L")], Portable, "abcd \x1b[2;1H\x1b[X\r\nx\x1b[2;2H"),
+];
+
+#[test]
+fn portable_redraws_use_no_state_in_which_terminals_disagree(rt: HostRuntime) -> Result<(), Fail> {
+    for example in &REDRAWN {
+        let wanted = wanted_text(rt.alloc(), Portable, example.4)?;
+        expect_redraw(rt.alloc(), example, wanted.as_str())?;
+    }
+    Ok(())
+}
+
+#[rattlefmt::skip]
+const CHANGED: [Example; 5] = [
+    // The three faults of the fixed form.
+    (
+        (2, 5), 0, &[], &[Text("abcd\r\nxxxxx\x1b[A")],
+        "abcd\r\nxxxxx\x1b[1;5H \x1b7\x1b[1;5H\x1b[X\x1b8",
+    ),
+    ((2, 5), 0, &[], &[Text("\x1b[2ma\x1b[22;1mb")], "\x1b[2ma\x1b[m\x1b[1mb"),
+    (
+        (2, 4), 0, &[Text("ab\u{65e5}x")], &[Text("ab\u{65e5}\r\nx")],
+        "\x1b[1;3H\x1b[2X\u{65e5}\x1b[2;2H",
+    ),
+
+    // A blank over the first half of a wide glyph: the whole glyph is erased.
+    (
+        (1, 4), 0, &[Text("\u{65e5}b")], &[Text("\x1b[2Gxb")],
+        "\x1b[H\x1b[2X\x1b[Cx\x1b[C",
+    ),
+
+    // The fixed form is kept where terminals agree.
+    ((2, 20), 0, &[], &[Text("----------")], "----------"),
+];
+
+#[test]
+fn portable_diffs_use_no_state_in_which_terminals_disagree(rt: HostRuntime) -> Result<(), Fail> {
+    for example in &CHANGED {
+        expect_at_each_cut(rt.alloc(), Change::With(PORTABLE), example)?;
+    }
+    Ok(())
+}
