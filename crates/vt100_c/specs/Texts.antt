@@ -1,5 +1,5 @@
 -- The text or output that each call generates.
-use Rattle.std.specs.Prelude.{◌≡◌, ◌<◌, ◌≤◌, ◌/◌, ◌%◌, ◌==◌, ℕ, IsTrue, List, [], Option, length, if◌then◌else◌}
+use Rattle.std.specs.Prelude.{◌≡◌, ◌<◌, ◌≤◌, ◌/◌, ◌%◌, ◌==◌, ℕ, IsTrue, List, [], Option, length, if◌then◌else◌, false}
 use Rattle.vt_cells.specs.Op.{bytes_of_all}
 use Rattle.vt_redraw.specs.Redraw.{cursor_state, difference, redraw}
 use Rattle.vt_rows.specs.Basic.{nothing_written}

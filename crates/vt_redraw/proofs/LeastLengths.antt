@@ -31,7 +31,6 @@ use Rattle.vt_redraw.specs.Script.{first_written, is_at, is_blank_of, move_ops, 
 use Rattle.vt_redraw.specs.Script.{placed_op, row_break, row_link, starts_other, wrapped_after_erasure, wrapped_after_glyph}
 use Rattle.vt_redraw.proofs.Halves.{Loose, Paired, loose_step, paired_loose, paired_of}
 use Rattle.vt_redraw.proofs.Runs.{blank_of_is}
-use Rattle.vt_redraw.proofs.Writing.{changing_bytes}
 use Rattle.vt_redraw.specs.Script.{pen_in, change_ops, resets}
 use Rattle.vt_redraw.specs.Script.{attr_ops_in}
 

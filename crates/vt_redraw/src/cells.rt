@@ -16,9 +16,9 @@ ghost use Rattle.vt_redraw.specs.Internals.{AppendsOrStops, GathersOrStops, IsAl
 ghost use Rattle.vt_redraw.specs.Internals.{SettlesOrStops, Writes, cells_from, cells_over, columns_of, glyph_ops};
 ghost use Rattle.vt_redraw.specs.Internals.{run_ops};
 ghost use Rattle.vt_redraw.specs.Refusals.{RefusedOnlyIfSome};
-ghost use Rattle.vt_redraw.specs.Script.{erase_run, run_count, pen_in, wrapped_after_erasure, wrapped_after_glyph};
+ghost use Rattle.vt_redraw.specs.Script.{erase_run, pen_in, wrapped_after_erasure, wrapped_after_glyph};
 
-use crate::form::Form;
+use crate::form::{Form, run_count};
 use crate::passing::{next_other, stands_at};
 use crate::pen::Pen;
 use crate::picture_row::PictureRow;
@@ -135,29 +135,8 @@ fn gather_byte<S: Sink>(
     Ok(())
 }
 
-/// Returns the number of columns to erase for a run of `count` blanks that ends just before column
-/// `end`. In the portable form, this includes the continuation cell of a wide glyph that the run
-/// cuts.
-fn run_count(form: Form, count: u16, end: u16, over: &PictureRow<'_>) -> u16
-    requires inside { end < length over.now.cells }
-    requires order { count ≤ end }
-    ensures { result ≡ run_count form count (at over.now.cells end) }
-{
-    match form {
-        Form::Fixed => count,
-        Form::Portable => {
-            // Only for the proof: the end of the run is less than a number of 16 bits.
-            if end < over.cols() && over.cell(end).is_wide_continuation() {
-                return count + 1;
-            }
-            count
-        }
-    }
-}
-
-/// Writes the sequence that erases `count` columns (ECH), or the rest of the
-/// row (EL) if the columns extend to its end. `end` is the column after the
-/// erased columns.
+/// Writes the sequence that erases `count` columns (ECH), or the rest of the row (EL) if the columns
+/// extend to its end. `end` is the column after the erased columns.
 #[tactic(auto, using(crate::proofs::Filling::erase_run_counted))]
 fn write_erase<S: Sink>(
     sink: &mut S,
@@ -205,9 +184,8 @@ pub fn write_run<S: Sink>(
     write_erase(sink, pen.form, count, end, over)
 }
 
-/// Appends to `buffer` the sequence that erases `count` columns (ECH), or the rest
-/// of the row (EL) if the columns extend to its end. `end` is the column after the
-/// erased columns.
+/// Appends to `buffer` the sequence that erases `count` columns (ECH), or the rest of the row (EL)
+/// if the columns extend to its end. `end` is the column after the erased columns.
 #[tactic(auto, using(crate::proofs::Filling::erase_run_counted))]
 fn push_erase(buffer: &mut Buffer, form: Form, count: u16, end: u16, over: &PictureRow<'_>)
     requires inside { end ≤ length over.now.cells }
@@ -247,18 +225,16 @@ fn gather_run<S: Sink>(
     Ok(())
 }
 
-/// Returns whether the terminal's row is still wrapped after printing a glyph
-/// that ends just before column `col`. `flag` is true if the row was wrapped,
-/// and `wide` if the glyph is wide.
+/// Returns whether the terminal's row is still wrapped after printing a glyph that ends just before
+/// column `col`. `flag` is true if the row was wrapped, and `wide` if the glyph is wide.
 pub fn wrapped_after_glyph(flag: bool, wide: bool, over: &PictureRow<'_>, col: u16) -> bool
     ensures { result ≡ wrapped_after_glyph flag wide (drop col over.now.cells) }
 {
     flag && !(wide && over.is_torn(col))
 }
 
-/// Returns whether the terminal's row is still wrapped after erasing a run of
-/// columns that ends just before column `col`. `flag` is true if the row was
-/// wrapped.
+/// Returns whether the terminal's row is still wrapped after erasing a run of columns that ends just
+/// before column `col`. `flag` is true if the row was wrapped.
 #[tactic(auto, using(crate::proofs::Filling::nil_at))]
 pub fn wrapped_after_erasure(flag: bool, over: &PictureRow<'_>, col: u16) -> bool
     requires { col ≤ length over.now.cells }

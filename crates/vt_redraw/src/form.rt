@@ -1,8 +1,10 @@
-//! The form of redraws and diffs.
+//! The form of redraws and diffs, and the choices that depend on it.
 
-ghost use Rattle.std.specs.Prelude.{◌≡◌};
-ghost use Rattle.vt_redraw.specs.Script.{resets, swaps_intensity};
+ghost use Rattle.std.specs.Prelude.{◌≡◌, ◌-◌, ◌<◌, ◌≤◌, length};
+ghost use Rattle.vt_rows.specs.Cells.{at};
+ghost use Rattle.vt_redraw.specs.Script.{erased_count, resets, run_count, swaps_intensity};
 
+use crate::picture_row::PictureRow;
 use vt_cells::Attrs;
 
 /// The form of the output that displays a picture.
@@ -32,4 +34,36 @@ fn swaps_intensity(was: Attrs, new: Attrs) -> bool
     ensures { result ≡ swaps_intensity was new }
 {
     (was.bold() && new.dim()) || (was.dim() && new.bold())
+}
+
+/// Returns the number of columns to erase for a run of `count` blanks that ends just before column
+/// `end`. In the portable form, this includes the continuation cell of a wide glyph that the run
+/// cuts.
+pub(crate) fn run_count(form: Form, count: u16, end: u16, over: &PictureRow<'_>) -> u16
+    requires inside { end < length over.now.cells }
+    requires order { count ≤ end }
+    ensures { result ≡ run_count form count (at over.now.cells end) }
+{
+    match form {
+        Form::Fixed => count,
+        Form::Portable => {
+            // Only for the proof: the end of the run is less than a number of 16 bits.
+            if end < over.cols() && over.cell(end).is_wide_continuation() {
+                return count + 1;
+            }
+            count
+        }
+    }
+}
+
+/// Returns the number of columns to erase of the glyph that begins in column `col` and ends the row:
+/// one in the fixed form, and all columns of the glyph in the portable form.
+pub(crate) fn erased_columns(form: Form, cells: &PictureRow<'_>, col: u16) -> u16
+    requires { col ≤ length cells.now.cells }
+    ensures { result ≡ erased_count form (length cells.now.cells - col) }
+{
+    match form {
+        Form::Fixed => 1,
+        Form::Portable => cells.cols() - col,
+    }
 }

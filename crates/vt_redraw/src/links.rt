@@ -4,17 +4,17 @@
 //! A *link* makes the terminal wrap from one row into the next, so that the upper row becomes
 //! wrapped. A *break* prints the end of a wrapped row again, so that the row is no longer wrapped.
 
-ghost use Rattle.std.specs.Prelude.{◌≡◌, ◌++◌, ◌-◌, ◌≤◌, ◌<◌, ◌&&◌, ◌||◌, [], ◌∷◌, not, nat_le, true, IfOk, OnOk, length};
+ghost use Rattle.std.specs.Prelude.{◌≡◌, ◌++◌, ◌<◌, ◌&&◌, ◌||◌, [], ◌∷◌, not, nat_le, true, IfOk, OnOk, length};
 ghost use Rattle.vt_cells.specs.Cell.{is_blank, is_glyph};
 ghost use Rattle.vt_cells.specs.Op.{bytes_of, bytes_of_all};
 ghost use Rattle.vt_rows.specs.Cells.{IsPaired};
 ghost use Rattle.vt_redraw.specs.Internals.{AppendsOrStops, IsRowOver, IsRowUnder, LinksOrStops, Writes, break_of};
 ghost use Rattle.vt_redraw.specs.Redraw.{link_of};
 ghost use Rattle.vt_redraw.specs.Refusals.{RefusedOnlyIfSome};
-ghost use Rattle.vt_redraw.specs.Script.{after_last_glyph, back_op, erased_count, first_written, is_at, starts_other};
+ghost use Rattle.vt_redraw.specs.Script.{after_last_glyph, back_op, first_written, is_at, starts_other};
 
 use crate::cells::{columns, print_at, wrapped_after_glyph, write_text};
-use crate::form::Form;
+use crate::form::{Form, erased_columns};
 use crate::pen::Pen;
 use crate::picture_row::PictureRow;
 use vt_cells::term::{Backspace, BufWrite, EraseChar, MoveTo};
@@ -70,18 +70,6 @@ pub fn write_back<S: Sink>(sink: &mut S, form: Form, pos: Pos) -> Result<(), S::
     match form {
         Form::Fixed => Backspace.write_buf(sink),
         Form::Portable => MoveTo { pos }.write_buf(sink),
-    }
-}
-
-/// Returns the number of columns to erase of the glyph that begins in column `col` and ends the row:
-/// one in the fixed form, and all columns of the glyph in the portable form.
-fn erased_columns(form: Form, cells: &PictureRow<'_>, col: u16) -> u16
-    requires { col ≤ length cells.now.cells }
-    ensures { result ≡ erased_count form (length cells.now.cells - col) }
-{
-    match form {
-        Form::Fixed => 1,
-        Form::Portable => cells.cols() - col,
     }
 }
 
