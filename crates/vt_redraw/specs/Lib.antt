@@ -12,3 +12,6 @@ pub mod Moved
 pub mod Shifted
 pub mod ShiftInternals
 pub mod Internals
+pub mod Certain
+pub mod Doubts
+pub mod Uses

@@ -84,3 +84,4 @@ pub mod ElementsRead
 pub mod Numbers
 pub mod ShortMovesRead
 pub mod OrRedraw
+pub mod PortableExamples

@@ -30,6 +30,7 @@ pub mod Again
 pub mod Streamed
 pub mod Repeating
 pub mod RepeatInternals
+pub mod Portable
 pub mod Diffs
 pub mod DiffInternals
 pub mod ShortMoves
