@@ -15,3 +15,4 @@ pub mod Internals
 pub mod Certain
 pub mod Doubts
 pub mod Uses
+pub mod PortableOps

@@ -84,4 +84,6 @@ pub mod ElementsRead
 pub mod Numbers
 pub mod ShortMovesRead
 pub mod OrRedraw
+pub mod PortableSgr
+pub mod PortableReads
 pub mod PortableExamples

@@ -30,7 +30,7 @@ use Rattle.vt_screen.specs.Reading.{quiet_steps}
 
 -- ---- one group
 
-one_group : (groups : List (List ℕ)) (wanted : Wanted) (group : List ℕ) (rest : List (List ℕ)) (r : GroupRead)
+pub one_group : (groups : List (List ℕ)) (wanted : Wanted) (group : List ℕ) (rest : List (List ℕ)) (r : GroupRead)
     → group_read wanted group ≡ r
     → sgr_from groups wanted (group ∷ rest) ≡ reading_steps groups r.reading ++ sgr_from groups r.wanted rest
 one_group groups wanted group rest r e =
@@ -75,13 +75,13 @@ background_bright =
     below_8 (λ j. number_read (100 + j) ≡ set (Background (Idx (8 + j)))) refl refl refl refl refl refl refl refl
 
 -- The numbers 90 to 97 set the foreground colours 8 to 15.
-foreground_high : (i : ℕ) → 8 ≤ i → i < 16 → number_read (82 + i) ≡ set (Foreground (Idx i))
+pub foreground_high : (i : ℕ) → 8 ≤ i → i < 16 → number_read (82 + i) ≡ set (Foreground (Idx i))
 foreground_high i low high =
     let e : 82 + i ≡ 90 + (i - 8) = omega arith in
     let f : 8 + (i - 8) ≡ i = omega arith in
     ap number_read e ∙ (foreground_bright (i - 8) (omega arith) ∙ ap (λ k. set (Foreground (Idx k))) f)
 
-background_high : (i : ℕ) → 8 ≤ i → i < 16 → number_read (92 + i) ≡ set (Background (Idx i))
+pub background_high : (i : ℕ) → 8 ≤ i → i < 16 → number_read (92 + i) ≡ set (Background (Idx i))
 background_high i low high =
     let e : 92 + i ≡ 100 + (i - 8) = omega arith in
     let f : 8 + (i - 8) ≡ i = omega arith in
@@ -111,28 +111,28 @@ renders_then ms ns f g p q groups rest screen =
 
 -- ---- extended colours
 
-form_rgb : (layer : Layer) → group_read (Form layer) (2 ∷ []) ≡ silent_read (Red layer)
+pub form_rgb : (layer : Layer) → group_read (Form layer) (2 ∷ []) ≡ silent_read (Red layer)
 unfolding group_read form_read
 form_rgb layer = refl
 
-form_index : (layer : Layer) → group_read (Form layer) (5 ∷ []) ≡ silent_read (Index layer)
+pub form_index : (layer : Layer) → group_read (Form layer) (5 ∷ []) ≡ silent_read (Index layer)
 unfolding group_read form_read
 form_index layer = refl
 
-red_fits : (layer : Layer) (r : ℕ) → r < 256 → group_read (Red layer) (r ∷ []) ≡ silent_read (Green layer r)
+pub red_fits : (layer : Layer) (r : ℕ) → r < 256 → group_read (Red layer) (r ∷ []) ≡ silent_read (Green layer r)
 unfolding group_read
 red_fits layer r h = part_fits r (λ r. silent_read (Green layer r)) h
 
-green_fits : (layer : Layer) (r g : ℕ) → g < 256 → group_read (Green layer r) (g ∷ []) ≡ silent_read (Blue layer r g)
+pub green_fits : (layer : Layer) (r g : ℕ) → g < 256 → group_read (Green layer r) (g ∷ []) ≡ silent_read (Blue layer r g)
 unfolding group_read
 green_fits layer r g h = part_fits g (λ g. silent_read (Blue layer r g)) h
 
-blue_fits : (layer : Layer) (r g b : ℕ) → b < 256 →
+pub blue_fits : (layer : Layer) (r g b : ℕ) → b < 256 →
     group_read (Blue layer r g) (b ∷ []) ≡ set (color_setting layer (Rgb r g b))
 unfolding group_read
 blue_fits layer r g b h = part_fits b (λ b. set (color_setting layer (Rgb r g b))) h
 
-index_fits : (layer : Layer) (i : ℕ) → i < 256 → group_read (Index layer) (i ∷ []) ≡ set (color_setting layer (Idx i))
+pub index_fits : (layer : Layer) (i : ℕ) → i < 256 → group_read (Index layer) (i ∷ []) ≡ set (color_setting layer (Idx i))
 unfolding group_read
 index_fits layer i h = part_fits i (λ i. set (color_setting layer (Idx i))) h
 
