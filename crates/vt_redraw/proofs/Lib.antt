@@ -52,3 +52,4 @@ pub mod LeastLengths
 pub mod Viewing
 pub mod RowSteps
 pub mod ItemSteps
+pub mod PortableSteps
