@@ -53,3 +53,4 @@ pub mod Viewing
 pub mod RowSteps
 pub mod ItemSteps
 pub mod PortableSteps
+pub mod PortableGlyphs

@@ -54,7 +54,7 @@ leaves_then [] ys doubts middle left a b d l m =
     (subst (λ (z : Canvas). Leaves ys middle z left) (sym (some_same a b d)) m)
 leaves_then (x ∷ xs) ys doubts middle left a b d l m =
     λ next e. leaves_then xs ys (doubts_after_op x doubts a) middle left next b
-        (sym (ap (λ (z : Option Canvas). and_then (drawn_all xs) z) e) ∙ d) (l next e) m
+    (sym (ap (λ (z : Option Canvas). and_then (drawn_all xs) z) e) ∙ d) (l next e) m
 
 pub portably_then : (xs ys : List Op) (doubts middle left : Doubts) (a b c : Canvas) →
     DrawsPortably xs doubts a middle b → DrawsPortably ys middle b left c → DrawsPortably (xs ++ ys) doubts a left c
