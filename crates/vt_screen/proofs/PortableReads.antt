@@ -34,11 +34,11 @@ use Rattle.vt_scan.proofs.Written.{alone, empty_groups, decimal_groups, joined_g
 use Rattle.vt_scan.proofs.Written.{decimal_is_parameter, joined_is_parameter, place_is_parameter}
 use Rattle.vt_screen.specs.CallsOfRun.{screen_after_all, screen_in, steps_of_all}
 use Rattle.vt_screen.specs.Controls.{control_steps, number_or, seen_of, steps_of}
-use Rattle.vt_screen.specs.Portable.{IsPortable, PortableEvents, control_use, csi_use, escape_use, has_single_numbers}
-use Rattle.vt_screen.specs.Portable.{sgr_use, use_of}
+use Rattle.vt_screen.specs.Portable.{IsPortable, IsPortableRedraw, PortableEvents, control_use, csi_use, escape_use}
+use Rattle.vt_screen.specs.Portable.{has_single_numbers, sgr_use, use_of}
 use Rattle.vt_screen.specs.Reading.{terminal}
 use Rattle.vt_screen.specs.Screen.{ScreenValue, canvas_of, with_canvas}
-use Rattle.vt_screen.specs.Shown.{IsReaderOf}
+use Rattle.vt_screen.specs.Shown.{IsReader, IsReaderOf}
 use Rattle.vt_screen.specs.Steps.{Print as PrintStep, display_after, screen_after_scrolling_step}
 use Rattle.vt_screen.specs.Steps as steps
 use Rattle.vt_screen.proofs.PortableSgr.{change_use, clear_use}
@@ -371,3 +371,12 @@ pub ops_portable : (self prev : Picture) (ops : List Op) → AllByRecursion Fits
     IsPortable self prev (bytes_of_all ops)
 ops_portable self prev ops fits draws reader is =
     let drawn = draws reader is in all_portable ops (doubts_of prev) reader drawn.0 fits drawn.1.0 drawn.1.1
+
+-- Operations that draw on the canvas of every terminal of the picture's size, and are portable there whatever terminals
+-- differ in before, have portable output.
+pub redraw_ops_portable : (self : Picture) (ops : List Op) → AllByRecursion Fits ops →
+    ((reader : ScreenValue) (doubts : Doubts) → IsReader self reader →
+    (d : Canvas) × ((drawn_all ops (canvas_of reader) ≡ Some d) × PortableOps ops doubts (canvas_of reader))) →
+    IsPortableRedraw self (bytes_of_all ops)
+redraw_ops_portable self ops fits draws reader doubts is =
+    let drawn = draws reader doubts is in all_portable ops doubts reader drawn.0 fits drawn.1.0 drawn.1.1
