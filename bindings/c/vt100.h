@@ -111,7 +111,7 @@ extern "C" {
 /* ---- versions */
 
 #define VT100_VERSION_MAJOR 1
-#define VT100_VERSION_MINOR 1
+#define VT100_VERSION_MINOR 2
 #define VT100_CRATE_VERSION "0.18.1"
 
 /* ---- handles and statuses */
@@ -372,6 +372,15 @@ vt100_status vt100_get_cell(vt100_handle *handle, uint16_t row, uint16_t col, vt
  * VT100_NO_OBJECT, VT100_WRONG_KIND. VT100_BAD_ARGUMENT: there is no such row, or not enough room.
  */
 vt100_status vt100_get_cells(vt100_handle *handle, uint16_t row, vt100_cell *out, size_t room);
+
+/*
+ * Stores the cells of all displayed rows, one row after the other, with one cell for each column of
+ * the screen in each row: the cell at a row and column is out[row * cols + col], where `cols` is
+ * that of vt100_state. `room` is the number of cells that `out` has room for; it must be at least
+ * rows * cols, and further elements of `out` are unchanged. This function never allocates.
+ * VT100_NO_OBJECT, VT100_WRONG_KIND. VT100_BAD_ARGUMENT: not enough room.
+ */
+vt100_status vt100_get_all_cells(vt100_handle *handle, vt100_cell *out, size_t room);
 
 /*
  * Stores 1 if a displayed row is wrapped (its text continues on the next row), otherwise 0.
@@ -728,7 +737,7 @@ vt100_status vt100_mirror_is_current(vt100_handle *mirror, uint64_t viewer, uint
 /* ---- the version and status messages: the returned pointers are never null, and always valid */
 
 /*
- * Returns the interface version of the library that the program runs with, such as "1.1":
+ * Returns the interface version of the library that the program runs with, such as "1.2":
  * VT100_VERSION_MAJOR and VT100_VERSION_MINOR of that library's header. A program linked to the
  * shared object may run with a later MINOR than it was compiled with.
  */

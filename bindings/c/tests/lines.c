@@ -84,12 +84,17 @@ static void add_cell(struct text *text, uint16_t row, uint16_t col, const vt100_
     add(text, "\n");
 }
 
-/* Adds lines for the cells of a row, and checks that vt100_get_cells stores the same cells. */
-static void add_row(struct text *text, vt100_handle *handle, uint16_t row, uint16_t cols) {
+/*
+ * Adds lines for the cells of a row, and checks that vt100_get_cells stores the same cells. `stored`
+ * is what vt100_get_all_cells has stored for this row.
+ */
+static void add_row(struct text *text, vt100_handle *handle, uint16_t row, uint16_t cols,
+                    const vt100_cell *stored) {
     vt100_cell cell;
     vt100_cell *cells = malloc(cols * sizeof *cells);
     must(cells != NULL);
     must(vt100_get_cells(handle, row, cells, cols) == VT100_OK);
+    must(memcmp(cells, stored, cols * sizeof *cells) == 0);
     for (uint16_t col = 0; vt100_get_cell(handle, row, col, &cell) == VT100_OK; col++) {
         must(col >= cols || memcmp(&cells[col], &cell, sizeof cell) == 0);
         add_cell(text, row, col, &cell);
@@ -107,7 +112,13 @@ void add_picture(struct text *text, vt100_handle *handle) {
         add(text, "%u", wrapped);
     }
     add(text, "\n");
-    for (uint16_t row = 0; row < state.rows; row++) add_row(text, handle, row, state.cols);
+    size_t count = (size_t)state.rows * state.cols;
+    vt100_cell *cells = malloc(count * sizeof *cells);
+    must(cells != NULL && vt100_get_all_cells(handle, cells, count) == VT100_OK);
+    for (uint16_t row = 0; row < state.rows; row++) {
+        add_row(text, handle, row, state.cols, cells + (size_t)row * state.cols);
+    }
+    free(cells);
 }
 
 void add_modes(struct text *text, vt100_handle *handle) {

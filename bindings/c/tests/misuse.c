@@ -46,7 +46,7 @@ static size_t len, ends[ROWS];
 static uint8_t byte;
 static uint16_t rows, cols;
 static uint64_t viewer;
-static vt100_cell cells[COLS];
+static vt100_cell cells[COLS], all_cells[ROWS * COLS];
 static vt100_state state;
 
 static vt100_status process(vt100_handle *h) { return vt100_process(h, some, 2); }
@@ -57,6 +57,9 @@ static vt100_status scrollback(vt100_handle *h) { return vt100_set_scrollback(h,
 static vt100_status get_state(vt100_handle *h) { return vt100_get_state(h, &state); }
 static vt100_status get_cell(vt100_handle *h) { return vt100_get_cell(h, 0, 1, cells); }
 static vt100_status get_cells(vt100_handle *h) { return vt100_get_cells(h, 2, cells, COLS); }
+static vt100_status get_all_cells(vt100_handle *h) {
+    return vt100_get_all_cells(h, all_cells, ROWS * COLS);
+}
 static vt100_status wrapped(vt100_handle *h) { return vt100_row_wrapped(h, 2, &byte); }
 static vt100_status pending(vt100_handle *h) { return vt100_pending_len(h, &len); }
 static vt100_status steady(vt100_handle *h) { return vt100_is_steady(h, &byte); }
@@ -124,7 +127,8 @@ static const struct {
     {"process", process, P | M}, {"process_until", until, P}, {"set_size", resize, P | S | M},
     {"screen_set_size", screen_resize, P | S}, {"set_scrollback", scrollback, P | S},
     {"clear_scrollback", vt100_clear_scrollback, P | S}, {"get_state", get_state, P | S},
-    {"get_cell", get_cell, P | S}, {"get_cells", get_cells, P | S}, {"row_wrapped", wrapped, P | S},
+    {"get_cell", get_cell, P | S}, {"get_cells", get_cells, P | S},
+    {"get_all_cells", get_all_cells, P | S}, {"row_wrapped", wrapped, P | S},
     {"contents", contents, P | S}, {"contents_between", between, P | S},
     {"contents_formatted", formatted, P | S}, {"contents_formatted_reset", reset, P | S},
     {"contents_formatted_basic", basic, P | S}, {"state_formatted", all, P | S},
@@ -278,6 +282,10 @@ static void places(void) {
     must(vt100_get_cell(&handle, 0, COLS, cells) == VT100_BAD_ARGUMENT);
     must(vt100_get_cells(&handle, ROWS, cells, COLS) == VT100_BAD_ARGUMENT);
     must(vt100_get_cells(&handle, 0, cells, COLS - 1) == VT100_BAD_ARGUMENT);
+    memset(all_cells, 99, sizeof all_cells);
+    must(vt100_get_all_cells(&handle, all_cells, ROWS * COLS - 1) == VT100_BAD_ARGUMENT);
+    must(vt100_get_all_cells(&handle, all_cells, COLS) == VT100_BAD_ARGUMENT);
+    for (size_t i = 0; i < ROWS * COLS; i++) must(all_cells[i].text[0] == 99);
     must(vt100_row_wrapped(&handle, ROWS, &byte) == VT100_BAD_ARGUMENT);
     must(vt100_contents_between(&handle, 0, COLS + 1, 1, 0, &len) == VT100_BAD_ARGUMENT);
     must(vt100_contents_between(&handle, 1, COLS + 1, 1, 0, &len) == VT100_OK && len == 0);
@@ -319,6 +327,7 @@ static void null(void) {
     must(vt100_process(&parser, NULL, 0) == VT100_OK);
     must(vt100_process_until(&parser, NULL, 0, &len) == VT100_OK && len == 0);
     must(vt100_get_cells(&parser, 0, NULL, 0) == VT100_BAD_ARGUMENT);
+    must(vt100_get_all_cells(&parser, NULL, 0) == VT100_BAD_ARGUMENT);
     must(vt100_rows(&parser, 0, 1, NULL, 0, &len) == VT100_BAD_ARGUMENT);
     must(vt100_contents(&parser, &len) == VT100_OK && len == 2);
     must(vt100_copy(&parser, NULL, 0) == 0);

@@ -1,6 +1,6 @@
 /*
- * screens: tests of whether a screen is steady, of copies of what a screen displays, of whether a
- * viewer is up to date, of unfinished commands, and of the version.
+ * screens: tests of the cells of all rows, of whether a screen is steady, of copies of what a screen
+ * displays, of whether a viewer is up to date, of unfinished commands, and of the version.
  */
 #include "heap_refusing.h"
 #include "lines.h"
@@ -38,6 +38,74 @@ static int has_contents(vt100_handle *handle, const char *text) {
     must(vt100_contents(handle, &len) == VT100_OK);
     return is_text(handle, len, text);
 }
+
+/* ---- cells */
+
+/* What a cell must be: its text, its flags, and the palette index of its foreground color or -1. */
+struct wanted {
+    const char *text;
+    uint8_t flags;
+    int color;
+};
+
+static int is_cell(const vt100_cell *cell, const struct wanted *wanted) {
+    size_t len = strlen(wanted->text);
+    int is_indexed = wanted->color >= 0;
+    return cell->len == len && memcmp(cell->text, wanted->text, len) == 0
+        && cell->flags == wanted->flags && cell->fgcolor.kind == is_indexed
+        && cell->fgcolor.red == (is_indexed ? wanted->color : 0) && cell->bgcolor.kind == 0;
+}
+
+/*
+ * Checks the cells of all rows, for which there is room for one cell more than necessary. The last
+ * one must be unchanged. All allocations fail during the call.
+ */
+static void are_cells(vt100_handle *handle, size_t count, const struct wanted *wanted) {
+    vt100_cell cells[16];
+    must(count < 16);
+    memset(cells, 99, sizeof cells);
+    heap_refused = heap_allocations;
+    heap_refuses_all_behind = 1;
+    must(vt100_get_all_cells(handle, cells, count + 1) == VT100_OK);
+    heap_refused = -1;
+    for (size_t i = 0; i < count; i++) must(is_cell(&cells[i], &wanted[i]));
+    for (size_t i = 0; i < sizeof *cells; i++) must(((uint8_t *)&cells[count])[i] == 99);
+}
+
+/*
+ * The cells of all displayed rows are stored one row after the other. A scrollback row that is
+ * longer than the screen's rows is cut, and a shorter one is filled up with blank cells.
+ */
+static void all_cells(void) {
+    static const struct wanted page[] = {
+        {"a", VT100_BOLD, 1}, {"b", VT100_BOLD, 1}, {"", 0, -1}, {"", 0, -1},
+        {"\xe4\xb8\xad", VT100_WIDE, -1}, {"", VT100_WIDE_CONTINUATION, -1}, {".", 0, -1},
+        {"", 0, -1},
+    };
+    static const struct wanted cut[] = {
+        {"w", 0, 2}, {"x", 0, -1}, {"y", 0, -1}, {"1", 0, -1}, {"", 0, -1}, {"", 0, -1},
+    };
+    static const struct wanted filled[] = {
+        {"w", 0, 2}, {"x", 0, -1}, {"y", 0, -1}, {"z", 0, -1}, {"", 0, -1},
+        {"1", 0, -1}, {"", 0, -1}, {"", 0, -1}, {"", 0, -1}, {"", 0, -1},
+    };
+    vt100_handle parser = made(2, 4, 10), saved = VT100_EMPTY;
+    read_into(&parser, "\x1b[31;1mab\x1b[m\r\n\xe4\xb8\xad.");
+    are_cells(&parser, 8, page);
+    must(vt100_save(&parser, &saved) == VT100_OK);
+    read_into(&parser, "\x1b[2J\x1b[H\x1b[32mw\x1b[mxyz\r\n1\r\n2");
+    are_cells(&saved, 8, page);
+    must(vt100_set_size(&parser, 2, 3) == VT100_OK);
+    must(vt100_set_scrollback(&parser, 1) == VT100_OK);
+    are_cells(&parser, 6, cut);
+    must(vt100_set_scrollback(&parser, 0) == VT100_OK && vt100_set_size(&parser, 2, 5) == VT100_OK);
+    must(vt100_set_scrollback(&parser, 1) == VT100_OK);
+    are_cells(&parser, 10, filled);
+    vt100_free(&saved);
+    vt100_free(&parser);
+}
+
+/* ---- steadiness */
 
 static int is_steady(vt100_handle *handle) {
     answer = 99;
@@ -245,6 +313,7 @@ static void version(void) {
 }
 
 int main(void) {
+    all_cells();
     steady();
     shown_copies();
     viewers();

@@ -21,7 +21,7 @@ test("the synopsis of the crate", () => {
 });
 
 test("the version is that of the header", () => {
-  assert.equal(version, "1.1");
+  assert.equal(version, "1.2");
 });
 
 test("load takes bytes and a compiled module", async () => {
@@ -41,7 +41,7 @@ test("load takes responses, of any media type", async () => {
   const { moduleBytes } = await import("./module.js");
   for (const type of ["application/wasm", "application/octet-stream"]) {
     const response = new Response(await moduleBytes(), { headers: { "Content-Type": type } });
-    assert.equal((await load(response)).version, "1.1");
+    assert.equal((await load(response)).version, "1.2");
   }
   await assert.rejects(load(new Response("", { status: 404, statusText: "Not Found" })), /404 Not Found/);
 });

@@ -1,3 +1,4 @@
+pub mod AllCells
 pub mod Joining
 pub mod AsBox
 pub mod Null

@@ -4,6 +4,7 @@ use Rattle.std.specs.Prelude.{◌≡◌, ◌⊎◌, ◌==◌, ◌&&◌, ℕ, nat
 use Rattle.std.specs.Prelude.{Bool, Option, Some, None, Result, Ok, Err, IfErr, OnErr, if◌then◌else◌, string_bytes}
 use Rattle.vt_grid.specs.Page.{Page}
 use Rattle.vt_screen.specs.Screen.{ScreenValue, visible_row}
+use Rattle.vt100_c.specs.Shown.{cell_count}
 use Rattle.vt100_c.specs.Sources.{screen_in}
 use Rattle.vt100_c.specs.Status.{ok, out_of_memory, bad_argument, wrong_kind, other_size, no_object}
 use Rattle.vt100_c.specs.declared.object.Object.{Object}
@@ -56,6 +57,11 @@ row_status row screen = if nat_lt row (length screen.page.rows) then ok else bad
 -- such a row and `room` is at least the number of columns, otherwise `bad_argument`.
 abbrev pub row_cells_status : (row room : ℕ) → ScreenValue → ℕ
 row_cells_status row room screen = if nat_le screen.page.width room then row_status row screen else bad_argument
+
+-- The status of a call that stores the cells of all displayed rows: `ok` if `room` is at least the number of these cells,
+-- otherwise `bad_argument`.
+abbrev pub all_cells_status : (room : ℕ) → ScreenValue → ℕ
+all_cells_status room screen = if nat_le (cell_count screen) room then ok else bad_argument
 
 -- The status of a call with the position of a displayed cell: `ok` if there is such a cell, otherwise `bad_argument`. A
 -- scrollback row may have more columns than the screen.

@@ -1,5 +1,5 @@
 -- The display as C reads it: colors, cells and states.
-use Rattle.std.specs.Prelude.{◌≡◌, ◌⊎◌, ◌+◌, ◌<◌, ℕ, Bool, List, [], ◌∷◌, length, slice_index_or, if◌then◌else◌}
+use Rattle.std.specs.Prelude.{◌≡◌, ◌⊎◌, ◌+◌, ◌*◌, ◌<◌, ℕ, Bool, List, [], ◌∷◌, drop, length, slice_index_or, if◌then◌else◌}
 use Rattle.vt_cells.specs.Attrs.{Attrs, is_bold, is_dim}
 use Rattle.vt_cells.specs.Cell.{CellValue, attrs_of, default_blank, is_right_half, is_wide, text_of}
 use Rattle.vt_cells.specs.CellInternals.{padded_text}
@@ -64,6 +64,16 @@ cell_in cells k = slice_index_or cells k (cell_for_c default_blank)
 abbrev pub IsRowForC : ℕ → ScreenValue → List VtCell → Type 0
 IsRowForC row screen cells = (col : ℕ) → col < screen.page.width
     → cell_in cells col ≡ cell_for_c (shown_cell row col screen)
+
+-- The number of cells of all displayed rows, counting one cell for each column of the screen in each row.
+abbrev pub cell_count : ScreenValue → ℕ
+cell_count screen = length screen.page.rows * screen.page.width
+
+-- The list begins with the cells of all displayed rows, one row after the other, with one cell for each column of the
+-- screen in each row.
+abbrev pub AreRowsForC : ScreenValue → List VtCell → Type 0
+AreRowsForC screen cells = (row : ℕ) → row < length screen.page.rows
+    → IsRowForC row screen (drop (row * screen.page.width) cells)
 
 -- ---- states
 

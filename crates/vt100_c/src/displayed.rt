@@ -2,8 +2,9 @@
 
 ghost use Rattle.std.specs.Prelude.{◌≡◌, ◌<◌, drop, length};
 ghost use Rattle.vt_screen.specs.Screen.{visible_row};
-ghost use Rattle.vt100_c.specs.Due.{HoldsScreen, IsSomeAnd, cell_status, due_at, due_on, row_cells_status, row_status};
-ghost use Rattle.vt100_c.specs.Shown.{IsRowForC, bit, cell_for_c, shown_cell};
+ghost use Rattle.vt100_c.specs.Due.{HoldsScreen, IsSomeAnd, all_cells_status, cell_status, due_at, due_on};
+ghost use Rattle.vt100_c.specs.Due.{row_cells_status, row_status};
+ghost use Rattle.vt100_c.specs.Shown.{AreRowsForC, IsRowForC, bit, cell_count, cell_for_c, shown_cell};
 ghost use Rattle.vt100_c.specs.Sources.{screen_in};
 ghost use Rattle.vt100_c.specs.Status.{ok};
 
@@ -74,6 +75,32 @@ pub extern "C" fn vt100_get_cells(
     }
     let object = handle.take_out(alloc);
     let status = write_cells(&object.source, row, out);
+    handle.put_back(object);
+    status
+}
+
+/// Stores the cells of all displayed rows in `out`, one row after the other, with one cell for each
+/// column of the screen in each row. The rest of `out` is unchanged.
+///
+/// # Errors
+///
+/// Returns `NO_OBJECT` if the handle is empty, `WRONG_KIND` if it holds neither
+/// a parser nor a saved screen, or `BAD_ARGUMENT` if `out` is too short. On
+/// error, nothing is stored.
+#[unsafe(no_mangle)]
+pub extern "C" fn vt100_get_all_cells(alloc: Global, handle: &mut Handle, out: &mut [VtCell]) -> u8
+    ensures same { handle.new.held ≡ handle.old.held }
+    ensures status { result ≡ due_at (all_cells_status (length out.old)) handle.old.held }
+    ensures cells { result ≡ ok → HoldsScreen handle.old.held (λ screen. AreRowsForC screen out.new) }
+    ensures rest { result ≡ ok → HoldsScreen handle.old.held
+        (λ screen. drop (cell_count screen) out.new ≡ drop (cell_count screen) out.old) }
+    ensures refused { ¬ (result ≡ ok) → out.new ≡ out.old }
+{
+    if !handle.is_full() {
+        return NO_OBJECT;
+    }
+    let object = handle.take_out(alloc);
+    let status = write_all_cells(&object.source, out);
     handle.put_back(object);
     status
 }
@@ -169,6 +196,52 @@ fn write_row(screen: &Screen, row: u16, out: &mut [VtCell]) -> u8
     }
     fill_row(screen, row, &mut out[..width]);
     OK
+}
+
+/// Stores the cells of all displayed rows of a source's screen in `out`, one row after the other.
+/// Returns `WRONG_KIND` if the source has no screen, and `BAD_ARGUMENT` if `out` is too short.
+fn write_all_cells(source: &Source, out: &mut [VtCell]) -> u8
+    ensures status { result ≡ due_on (all_cells_status (length out.old)) (screen_in source.now) }
+    ensures cells { result ≡ ok → IsSomeAnd (screen_in source.now) (λ screen. AreRowsForC screen out.new) }
+    ensures rest { result ≡ ok → IsSomeAnd (screen_in source.now)
+        (λ screen. drop (cell_count screen) out.new ≡ drop (cell_count screen) out.old) }
+    ensures refused { ¬ (result ≡ ok) → out.new ≡ out.old }
+{
+    match screen_of(source) {
+        Some(screen) => write_rows(screen, out),
+        None => WRONG_KIND,
+    }
+}
+
+/// Stores the cells of all displayed rows of a screen in `out`, one row after the other. Returns
+/// `BAD_ARGUMENT` if `out` is too short.
+fn write_rows(screen: &Screen, out: &mut [VtCell]) -> u8
+    ensures status { result ≡ all_cells_status (length out.old) screen.now }
+    ensures cells { result ≡ ok → AreRowsForC screen.now out.new }
+    ensures rest { result ≡ ok → drop (cell_count screen.now) out.new ≡ drop (cell_count screen.now) out.old }
+    ensures refused { ¬ (result ≡ ok) → out.new ≡ out.old }
+{
+    let (rows, cols) = screen.size();
+    let count = usize::from(rows.get()) * usize::from(cols.get());
+    if out.len() < count {
+        return BAD_ARGUMENT;
+    }
+    fill_rows(screen, &mut out[..count]);
+    OK
+}
+
+/// Stores the cells of all displayed rows in `out`, one row after the other,
+/// with one cell for each column of the screen in each row.
+fn fill_rows(screen: &Screen, out: &mut [VtCell])
+    requires { length out.old ≡ cell_count screen.now }
+    ensures { AreRowsForC screen.now out.new }
+{
+    let (rows, cols) = screen.size();
+    let width = usize::from(cols.get());
+    for row in 0..rows.get() {
+        let start = usize::from(row) * width;
+        fill_row(screen, row, &mut out[start..start + width]);
+    }
 }
 
 /// Stores the cells of a displayed row in `out`, one for each column of the
