@@ -62,6 +62,8 @@ def picture(screen):
     """Returns the lines that describe the cursor, the wrapped flags and the cells."""
     rows = range(screen.size.rows)
     flags = "".join("01"[screen.row_wrapped(row)] for row in rows)
+    if screen.buffer != [screen.cells(row) for row in rows]:
+        raise AssertionError(screen.buffer)
     cells = [line for row in rows for line in _cell_lines(screen, row)]
     return ["cursor %d %d" % screen.cursor, "flags " + flags, *cells]
 

@@ -46,6 +46,15 @@ class Cells(unittest.TestCase):
         screen.set_scrollback(1)
         self.assertEqual([cells[0].text for cells in screen], ["a", "b"])
 
+    def test_a_buffer_has_the_columns_of_the_screen(self):
+        screen = screen_of("abcd\r\ne\r\nf", 2, 4, 5)
+        for cols, first in ((3, ["a", "b", "c"]), (5, ["a", "b", "c", "d", ""])):
+            screen.set_scrollback(0)
+            screen.set_size(2, cols)
+            screen.set_scrollback(1)
+            texts = [[cell.text for cell in row] for row in screen.buffer]
+            self.assertEqual(texts, [first, ["e"] + [""] * (cols - 1)])
+
     def test_a_buffer_keeps_what_it_has(self):
         screen = screen_of("a")
         buffer = screen.buffer

@@ -122,6 +122,7 @@ def _arguments() -> Dict[str, List[Any]]:
         "get_state": [handle, ctypes.POINTER(State)],
         "get_cell": [handle, u16, u16, data],
         "get_cells": [handle, u16, data, size],
+        "get_all_cells": [handle, data, size],
         "row_wrapped": [handle, u16, flag],
         "is_steady": [handle, flag],
         "contents_between": [handle, u16, u16, u16, u16, length],
@@ -202,7 +203,7 @@ def _load() -> ctypes.CDLL:
 
 library = _load()
 
-#: The version of the C interface of the loaded library, such as "1.1".
+#: The version of the C interface of the loaded library, such as "1.2".
 library_version: str = library.vt100_version().decode()
 
 

@@ -181,9 +181,7 @@ class Screen(HasState):
             state = self._state
             room = CELL_SIZE * state.cols
             records = ctypes.create_string_buffer(room * state.rows)
-            start = ctypes.addressof(records)
-            for row in range(state.rows):
-                self._call(library.vt100_get_cells, row, start + room * row, state.cols)
+            self._call(library.vt100_get_all_cells, records, state.rows * state.cols)
         whole = records.raw
         return [whole[at : at + room] for at in range(0, len(whole), room)]
 
