@@ -228,6 +228,11 @@ export interface Screen extends Handle, Properties {
   cells(row: number): Cell[];
   /** Returns the records of a row's cells, 40 bytes each (vt100_cell in vt100.h), in `out` or a new array. */
   rowBytes(row: number, out?: Uint8Array): Uint8Array;
+  /** Returns the cells of all displayed rows: `allCells()[row][col]` is a cell. */
+  allCells(): Cell[][];
+  /** Returns the records of the cells of all displayed rows, one row after the other, 40 bytes each, in `out` or a new
+      array. This is faster than rowBytes for each row. */
+  allBytes(out?: Uint8Array): Uint8Array;
   /** Returns the displayed rows whose cells have changed since the last call, each with the records of its cells. The
       first call, and the first one after a resize, returns all rows. The records are valid until the next call. */
   dirty(): Map<number, Uint8Array>;
@@ -348,7 +353,7 @@ export interface Vt100 {
   readonly MouseProtocolEncoding: typeof MouseProtocolEncoding;
   readonly CursorStyle: typeof CursorStyle;
   readonly Vt100Error: typeof Vt100Error;
-  /** The version of the interface of the library, such as "1.1". */
+  /** The version of the interface of the library, such as "1.2". */
   readonly version: string;
   /** The memory of the instance, which only grows. */
   readonly memory: WebAssembly.Memory;

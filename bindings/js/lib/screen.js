@@ -80,6 +80,32 @@ export class Screen extends Handle {
     });
   }
 
+  allCells() {
+    const { rows, cols } = this.size;
+    return this.#withAll(rows, cols, (bytes, at) =>
+      Array.from({ length: rows }, (_, row) => cellsOf(bytes, at + CELL_SIZE * cols * row, cols)),
+    );
+  }
+
+  allBytes(out) {
+    const { rows, cols } = this.size;
+    return this.#withAll(rows, cols, (bytes, at) => {
+      const records = bytes.subarray(at, at + CELL_SIZE * rows * cols);
+      if (out === undefined) return records.slice();
+      out.set(records);
+      return out;
+    });
+  }
+
+  /** Returns what `use` returns for the memory and the address of the records of all rows. */
+  #withAll(rows, cols, use) {
+    const instance = this._instance;
+    return instance.withRoom(CELL_SIZE * rows * cols, (at) => {
+      instance.check(instance.library.vt100_get_all_cells(this._at, BigInt(at), BigInt(rows * cols)));
+      return use(instance.bytes, at);
+    });
+  }
+
   /** Returns what `use` returns for the memory, and the address and number of the records of a row. */
   #withRow(row, cols, use) {
     const instance = this._instance;

@@ -23,6 +23,7 @@ test("sizes and positions out of range", () => {
     () => parser.cells(-1),
     () => parser.rowBytes(65536),
     () => parser.rowBytes(0, new Uint8Array(1)),
+    () => parser.allBytes(new Uint8Array(1)),
     () => parser.rowWrapped(3),
     () => parser.rows(-1),
     () => parser.rows(0, 65536),

@@ -61,6 +61,7 @@ function cellsOfRow(screen, row) {
 export function picture(screen) {
   const { row, col } = screen.cursor;
   const rows = Array.from({ length: screen.size.rows }, (_, k) => k);
+  assert.deepEqual(screen.allCells(), rows.map((k) => screen.cells(k)));
   const flags = rows.map((k) => Number(screen.rowWrapped(k))).join("");
   const cells = rows.flatMap((k) => cellsOfRow(screen, k).map((cell, at) => cellLine(k, at, cell)));
   return [`cursor ${row} ${col}`, `flags ${flags}`, ...cells.filter((line) => !line.endsWith(BLANK_LINE))];

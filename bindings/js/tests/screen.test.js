@@ -94,6 +94,29 @@ test("cells", () => {
   assert.deepEqual(room.subarray(0, 400), records);
 });
 
+test("cells of all rows", () => {
+  const screen = screenOf("\x1b[31ma\x1b[mb\u5b57\r\nc", 2, 5);
+  const rows = screen.allCells();
+  assert.deepEqual(rows.map((row) => row.map((cell) => cell.text)), [["a", "b", "\u5b57", "", ""], ["c", "", "", "", ""]]);
+  assertCell(rows[0][0], { text: "a", fgcolor: 1 });
+  assertCell(rows[0][3], { wideContinuation: true });
+  const records = screen.allBytes();
+  assert.equal(records.length, 400);
+  assertCell(new Cell(records, 40 * 5), { text: "c" });
+  const room = new Uint8Array(500).fill(99);
+  assert.equal(screen.allBytes(room), room);
+  assert.deepEqual(room.subarray(0, 400), records);
+  assert.ok(room.subarray(400).every((byte) => byte === 99));
+});
+
+test("cells of all rows of a screen that needs more room than other calls", () => {
+  const screen = screenOf("\x1b[50;200Hx", 50, 200);
+  const rows = screen.allCells();
+  assert.deepEqual([rows.length, rows[49].length], [50, 200]);
+  assertCell(rows[49][199], { text: "x" });
+  assertCell(rows[49][198], {});
+});
+
 test("changed rows", () => {
   const screen = screenOf("abc");
   assert.deepEqual([...screen.dirty().keys()], [0, 1, 2]);

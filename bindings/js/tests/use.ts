@@ -23,11 +23,13 @@ const diff: string = parser.contentsDiffWith(saved, { scroll: true, repeat: Repe
 const isBar: boolean = parser.cursorStyle === CursorStyle.STEADY_VERTICAL_BAR;
 const isScreen: boolean = saved instanceof Screen && saved instanceof vt100.Screen;
 for (const [row, records] of parser.dirty()) new vt100.Cell(records, 40 * row);
+const last: Cell | undefined = parser.allCells()[23]?.[79];
+const whole: Uint8Array = parser.allBytes(new Uint8Array(40 * 24 * 80));
 const mirror: Mirror = new vt100.Mirror();
 const viewer: bigint = mirror.join();
 const { text, size } = mirror.update(viewer);
 saved[Symbol.dispose]();
-console.log(cell?.text, color, diff, isBar, isScreen, text, size?.rows);
+console.log(cell?.text, last?.text, whole.length, color, diff, isBar, isScreen, text, size?.rows);
 
 // @ts-expect-error
 parser.process(7);
