@@ -743,7 +743,11 @@ vt100_status vt100_mirror_is_current(vt100_handle *mirror, uint64_t viewer, uint
  */
 const char *vt100_version(void);
 
-/* Returns the meaning of a status, in English, without a newline. */
+/*
+ * Returns the meaning of a status, in English, without a newline. The text for VT100_BAD_ARGUMENT
+ * lists the reasons of all functions, because a status does not say which function returned it; the
+ * description of a function lists those that apply to it.
+ */
 const char *vt100_status_text(vt100_status status);
 
 #ifdef __cplusplus
