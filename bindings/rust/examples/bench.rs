@@ -1,7 +1,9 @@
 //! `bench PIECE WHAT ROWS COLS CAPACITY TIMES FILE`: processes FILE TIMES times with one parser, in
 //! chunks of PIECE bytes (`tool_bench process` uses chunks of 4096). WHAT is one of `process` for
 //! no additional work, `callbacks` for callbacks that do nothing, `rows` for an `on_scroll` that
-//! writes the row, and `cell` for reading a cell of the first row after each chunk.
+//! writes the row, `cell` for reading a cell of the first row after each chunk, `cells` for reading
+//! all cells after each chunk, and `clone` for cloning the screen TIMES times after FILE was
+//! processed once. The program can also be built with the crate `vt100`.
 
 use std::hint::black_box;
 use std::num::NonZeroU16;
@@ -56,12 +58,33 @@ impl Work {
         self.process(parser, look);
     }
 
+    /// Processes all bytes once, and then clones the screen.
+    fn clone_screen(&self) {
+        let mut parser = Parser::new(self.rows, self.cols, self.capacity);
+        parser.process(&self.bytes);
+        for _ in 0..self.times {
+            black_box(parser.screen().clone());
+        }
+    }
+
     fn process<CB: Callbacks>(&self, mut parser: Parser<CB>, look: impl Fn(&Screen)) {
         for _ in 0..self.times {
             for piece in self.bytes.chunks(self.piece) {
                 parser.process(piece);
                 look(parser.screen());
             }
+        }
+    }
+}
+
+/// Reads the text, the colors and the attributes of each cell.
+fn read_cells(screen: &Screen) {
+    let (rows, cols) = screen.size();
+    for row in 0..rows.get() {
+        for col in 0..cols.get() {
+            let cell = screen.cell(row, col).unwrap();
+            black_box((cell.contents(), cell.fgcolor(), cell.bgcolor()));
+            black_box((cell.bold(), cell.italic(), cell.underline(), cell.inverse()));
         }
     }
 }
@@ -76,6 +99,8 @@ fn main() {
     match words[2].as_str() {
         "process" => work.process(quiet(), |_| {}),
         "cell" => work.process(quiet(), look_at_cell),
+        "cells" => work.process(quiet(), read_cells),
+        "clone" => work.clone_screen(),
         "callbacks" => work.run(Empty, |_| {}),
         "rows" => work.run(Rows::default(), |_| {}),
         what => panic!("no such work: {what}"),

@@ -2,19 +2,47 @@ use crate::library;
 use crate::Color;
 
 /// A cell of a screen: a character with its colors and attributes.
+// The library writes cells of this type.
+#[repr(transparent)]
 #[derive(Clone, Eq, PartialEq)]
 pub struct Cell(library::Cell);
+
+/// All ASCII characters, in order.
+const ASCII: &str = match std::str::from_utf8(&ascii()) {
+    Ok(text) => text,
+    Err(_) => unreachable!(),
+};
+
+const fn ascii() -> [u8; 128] {
+    let mut bytes = [0; 128];
+    let mut index = 0;
+    while index < bytes.len() {
+        bytes[index] = index as u8;
+        index += 1;
+    }
+    bytes
+}
 
 impl Cell {
     pub(crate) const fn new(cell: library::Cell) -> Self {
         Self(cell)
     }
 
+    pub(crate) fn blank() -> Self {
+        Self::new(library::Cell::default())
+    }
+
     /// Returns the cell's text: a character with its combining characters, or the empty string.
     #[must_use]
     pub fn contents(&self) -> &str {
         let text = &self.0.text[..usize::from(self.0.len)];
-        std::str::from_utf8(text).expect("a cell's text is UTF-8")
+        // Most cells are blank or have one ASCII character, which takes less time to find out than to
+        // check the text.
+        match text {
+            [] => "",
+            [byte @ 0..=0x7f] => &ASCII[usize::from(*byte)..=usize::from(*byte)],
+            _ => std::str::from_utf8(text).expect("a cell's text is UTF-8"),
+        }
     }
 
     /// Returns whether the cell has text.

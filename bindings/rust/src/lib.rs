@@ -45,6 +45,7 @@ mod callbacks;
 pub mod capture;
 mod cell;
 mod cells;
+mod changes;
 mod color;
 mod diff_options;
 mod event;

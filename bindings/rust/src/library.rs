@@ -9,7 +9,8 @@
 //! - It is neither `Clone` nor `Copy`, and its pointer is private, so that no copy of it is used.
 //! - It frees its object exactly once, when it is dropped.
 //! - Bytes are passed as the pointer and length of a slice. Results are stored in local variables
-//!   of this module or in a vector, together with the length of that vector.
+//!   of this module, or in a vector or a slice, whose length is also passed. A [`crate::Cell`] has
+//!   the layout of a [`Cell`].
 
 use crate::diff_options::DiffOptions;
 
@@ -92,7 +93,7 @@ extern "C" {
     fn vt100_clear_scrollback(handle: *mut Handle) -> u8;
     fn vt100_get_state(handle: *mut Handle, out: *mut State) -> u8;
     fn vt100_get_cell(handle: *mut Handle, row: u16, col: u16, out: *mut Cell) -> u8;
-    fn vt100_get_cells(handle: *mut Handle, row: u16, out: *mut Cell, room: usize) -> u8;
+    fn vt100_get_cells(handle: *mut Handle, row: u16, out: *mut crate::Cell, room: usize) -> u8;
     fn vt100_row_wrapped(handle: *mut Handle, row: u16, out: *mut u8) -> u8;
     fn vt100_is_steady(handle: *mut Handle, out: *mut u8) -> u8;
     fn vt100_contents(handle: *mut Handle, len: *mut usize) -> u8;
@@ -337,6 +338,13 @@ impl Handle {
         out
     }
 
+    /// Returns the same as [`shown_copy`](Self::shown_copy), or `None` if memory is short.
+    pub fn shown_copy_if_memory(&mut self) -> Option<Self> {
+        let mut out = Self::default();
+        let status = unsafe { vt100_shown_copy(self, &mut out) };
+        (status == OK).then_some(out)
+    }
+
     /// Swaps the screens of two handles.
     pub fn swap(&mut self, other: &mut Self) {
         check(unsafe { vt100_swap(self, other) });
@@ -397,11 +405,9 @@ impl Handle {
         }
     }
 
-    /// Returns the cells of a row, for a screen of `cols` columns.
-    pub fn cells(&mut self, row: u16, cols: u16) -> Vec<Cell> {
-        let mut cells = vec![Cell::default(); usize::from(cols)];
+    /// Replaces `cells` with those of a row; their number must be that of the screen's columns.
+    pub fn read_cells(&mut self, row: u16, cells: &mut [crate::Cell]) {
         check(unsafe { vt100_get_cells(self, row, cells.as_mut_ptr(), cells.len()) });
-        cells
     }
 
     /// Returns whether a row is wrapped; `false` if there is no such row.
@@ -488,6 +494,21 @@ impl Handle {
         }
     }
 
+    /// Returns for each row whether its columns are equal to those of the screen `prev`, or `None` if
+    /// that handle is empty, the sizes differ or memory is short. Scrollback rows may have more
+    /// columns than the screen.
+    pub fn equal_rows(&mut self, prev: &mut Self, rows: u16, cols: u16) -> Option<Vec<bool>> {
+        let mut ends = vec![0; usize::from(rows)];
+        let mut len = 0;
+        let (out, room) = (ends.as_mut_ptr(), ends.len());
+        if unsafe { vt100_rows_diff(self, prev, 0, cols, out, room, &mut len) } != OK {
+            return None;
+        }
+        // The diff of a whole row is empty exactly if the rows are equal (clause `empty`).
+        let starts = std::iter::once(&0).chain(&ends);
+        Some(starts.zip(&ends).map(|(start, end)| start == end).collect())
+    }
+
     /// Continues a capture with all rows of a screen, and returns the added text.
     pub fn capture_screen(&mut self, capture: &mut Self) -> String {
         let mut len = 0;
@@ -503,15 +524,14 @@ impl Handle {
         capture.copied(len)
     }
 
-    /// Returns the records of a parser's events. Panics if an event was lost.
-    pub fn events(&mut self) -> Vec<u8> {
+    /// Replaces `records` with the records of a parser's events. Panics if an event was lost.
+    pub fn read_events(&mut self, records: &mut Vec<u8>) {
         let (mut len, mut is_whole) = (0, 0);
         check(unsafe { vt100_events(self, &mut len, &mut is_whole) });
         check(if is_whole == 1 { OK } else { OUT_OF_MEMORY });
-        let mut records = vec![0; len];
+        records.resize(len, 0);
         let copied = unsafe { vt100_copy_events(self, records.as_mut_ptr(), len) };
         records.truncate(copied);
-        records
     }
 
     pub fn clear_events(&mut self) {

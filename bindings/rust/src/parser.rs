@@ -6,6 +6,9 @@ use crate::Screen;
 use std::num::NonZeroU16;
 use std::sync::{Mutex, PoisonError};
 
+/// The size in bytes of the largest memory for records that is kept.
+const MOST_MEMORY: usize = 65_536;
+
 /// A terminal that processes what a program writes and maintains the screen.
 pub struct Parser<CB: Callbacks = ()> {
     /// The handle of the library's parser, which contains the screen. When the screen is borrowed
@@ -20,6 +23,12 @@ pub struct Parser<CB: Callbacks = ()> {
 
     is_together: bool,
     has_events: bool,
+
+    /// Whether the library's log may hold events, which is the case after a call that panicked.
+    is_log_left: bool,
+
+    /// Memory for the records of events.
+    records: Vec<u8>,
     callbacks: CB,
 }
 
@@ -70,6 +79,8 @@ impl<CB: Callbacks> Parser<CB> {
             rest: Mutex::default(),
             is_together: true,
             has_events,
+            is_log_left: false,
+            records: Vec::new(),
             callbacks,
         }
     }
@@ -86,7 +97,7 @@ impl<CB: Callbacks> Parser<CB> {
             self.screen.changed().process(bytes);
             return;
         }
-        self.screen.unchanged().clear_events();
+        self.begin_log();
         let mut bytes = bytes;
         while !bytes.is_empty() {
             self.join();
@@ -95,6 +106,7 @@ impl<CB: Callbacks> Parser<CB> {
             bytes = &bytes[used..];
             self.tell();
         }
+        self.is_log_left = false;
     }
 
     /// Returns the number of bytes that the parser keeps for an unfinished operating system command
@@ -135,11 +147,12 @@ impl<CB: Callbacks> Parser<CB> {
     pub fn set_size(&mut self, rows: NonZeroU16, cols: NonZeroU16) {
         self.join();
         if self.has_events {
-            self.screen.unchanged().clear_events();
+            self.begin_log();
         }
         self.screen.changed().set_size(rows.get(), cols.get());
         if self.has_events {
             self.tell();
+            self.is_log_left = false;
         }
     }
 
@@ -172,14 +185,31 @@ impl<CB: Callbacks> Parser<CB> {
         (&mut self.screen, &mut self.callbacks)
     }
 
+    /// Clears what an earlier call has left in the log.
+    fn begin_log(&mut self) {
+        if self.is_log_left {
+            self.screen.unchanged().clear_events();
+        }
+        self.is_log_left = true;
+    }
+
     /// Invokes the callbacks for the logged events, and clears the log.
     fn tell(&mut self) {
-        let log = self.screen.unchanged().events();
-        if log.is_empty() {
-            return;
+        let mut log = std::mem::take(&mut self.records);
+        self.screen.unchanged().read_events(&mut log);
+        if !log.is_empty() {
+            self.tell_all(&log);
         }
+        if log.capacity() <= MOST_MEMORY {
+            self.records = log;
+        }
+    }
+
+    /// Invokes the callbacks for the events in `log`, which is not empty, and clears the library's
+    /// log.
+    fn tell_all(&mut self, log: &[u8]) {
         let mut row = 0;
-        for event in records(&log) {
+        for event in records(log) {
             if let Event::OnScroll(alternate) = event {
                 let parser = if self.is_together {
                     self.screen.handle()

@@ -47,7 +47,7 @@ impl Screen {
     /// Returns the handle, for calls that change the screen.
     pub(crate) fn changed(&mut self) -> &mut Handle {
         self.state.take();
-        self.cells.clear();
+        self.cells.expire();
         self.unchanged()
     }
 
