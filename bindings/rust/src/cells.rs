@@ -93,6 +93,8 @@ impl Cells {
         cells.whole(screen, row, Some(first)).get(usize::from(col))
     }
 
+    /// Returns the rows of `screen`, after finding out which rows the last change has left as they
+    /// were if most of them were requested before it.
     fn rows(&self, screen: &Screen) -> &[Row] {
         self.rows.get_or_init(|| {
             let mut rows = std::mem::take(&mut *locked(&self.expired));
