@@ -11,6 +11,7 @@ from typing import List, Optional, Tuple
 
 from .. import _terminfo
 from ._local import LocalTerminal, is_available
+from ._loop import ignore_children, run, watch_children
 from ._program import Program
 from ._recording import Recording
 from ._server import NoLibrary, Server
@@ -131,7 +132,7 @@ class _Run:
         try:
             recording = self._recording(size)
             share = Share(program, *size, recording)
-            self._loop.add_signal_handler(signal.SIGCHLD, share.check_status)
+            watch_children(share.check_status)
             server.share = share
             if is_shown:
                 local = LocalTerminal(share.cohort, share.type)
@@ -142,7 +143,7 @@ class _Run:
         finally:
             if local is not None:
                 local.close()
-            self._loop.remove_signal_handler(signal.SIGCHLD)
+            ignore_children()
             server.share = None
             _forget(self._loop, program)
             program.close()
@@ -190,7 +191,7 @@ def main(given: Optional[List[str]] = None) -> int:
     """Runs the program. Returns the exit status: that of COMMAND, or 2 for a fault."""
     options = _arguments(given)
     try:
-        return asyncio.run(_run(options))
+        return run(_run(options))
     except (Fault, Missing, NoLibrary) as fault:
         _say(str(fault))
         return 2

@@ -4,14 +4,14 @@ module moves its bytes, so that it sees when a viewer's socket has drained."""
 from __future__ import annotations
 
 import asyncio
-import functools
-import importlib
 import time
-from typing import Any, List, Optional, Set, cast
+from typing import Any, Callable, List, Optional, Set, cast
 
 from . import _messages as messages
 from ._share import Share
 from ._site import Response, Site
+from ._sockets import NoLibrary as NoLibrary
+from ._sockets import WebSockets
 from ._viewers import Tokens, Viewer
 
 #: How long a connection may take for its request, and then for its first message, in seconds.
@@ -20,28 +20,18 @@ _PATIENCE = 10.0
 #: After how many seconds of silence a viewer gets a ping, and after how many it is cut off.
 PING_AFTER, GONE_AFTER = 20.0, 60.0
 
-#: The longest request, in bytes.
+#: The longest request, in bytes, and what ends one.
 _MAX_REQUEST = 16384
+_END_OF_REQUEST = b"\r\n\r\n"
 
 #: How many connections there may be besides those of viewers.
 _MAX_STRANGERS = 256
 
+#: Opcodes of frames (RFC 6455, section 5.2). Those of control frames are not less than `_CLOSE`.
+_TEXT, _CLOSE = 1, 8
+
 #: Codes of a close frame (RFC 6455, section 7.4.1).
 _NORMAL, _VIOLATION, _TRY_LATER = 1000, 1008, 1013
-
-
-class NoLibrary(Exception):
-    """Raised if there is no usable `websockets`."""
-
-
-def _library(name: str) -> Any:
-    try:
-        return importlib.import_module(f"websockets.{name}")
-    except ImportError:
-        raise NoLibrary(
-            "the package websockets is required: pip install websockets, or on Debian "
-            "apt install python3-websockets"
-        ) from None
 
 
 class Server:
@@ -54,17 +44,7 @@ class Server:
         self.site, self.tokens = site, tokens
         self.max_viewers = max_viewers
         self.connections: Set[Connection] = set()
-        server = _library("server")
-        # The name before version 11 was ServerConnection.
-        names = ("ServerProtocol", "ServerConnection")
-        makers: List[Any] = [getattr(server, name) for name in names if hasattr(server, name)]
-        if not makers:
-            raise NoLibrary("the package websockets is older than version 10")
-        self.make_protocol = makers[0]
-        self.response: Any = _library("http11").Response
-        self.headers: Any = _library("datastructures").Headers
-        self.frame = functools.lru_cache(maxsize=128)(self._frame)
-        self._frames = _library("frames")
+        self.sockets = WebSockets()
         self._listening: Optional[asyncio.AbstractServer] = None
         self._sweeper: Optional[asyncio.Task[None]] = None
 
@@ -77,12 +57,6 @@ class Server:
         self._sweeper = loop.create_task(self._sweep())
         number: int = self._listening.sockets[0].getsockname()[1]
         return number
-
-    def _frame(self, message: bytes) -> bytes:
-        """Returns the frame of a message. It is the same for all viewers: it is made once."""
-        frame = self._frames.Frame(self._frames.Opcode.BINARY, message)
-        data: bytes = frame.serialize(mask=False, extensions=[])
-        return data
 
     @property
     def is_crowded(self) -> bool:
@@ -121,18 +95,33 @@ class Server:
 class Connection(asyncio.Protocol):
     """A connection: a request for a file, or a viewer."""
 
-    _transport: asyncio.Transport
+    __slots__ = (
+        "_server",
+        "_sockets",
+        "_transport",
+        "_request",
+        "_protocol",
+        "_is_open",
+        "_is_compressed",
+        "_unread",
+        "_parts",
+        "_share",
+        "_viewer",
+        "_heard",
+        "_is_pinged",
+    )
 
     def __init__(self, server: Server) -> None:
-        self._server = server
-        self._protocol: Any = server.make_protocol(max_size=messages.MAX_RECEIVED)
-        self._viewer: Optional[Viewer] = None
+        self._server, self._sockets = server, server.sockets
+        self._request: Optional[bytes] = b""  # its bytes so far, or None when it has been read
+        self._protocol: Any = None  # or one, if it is not between two messages
+        self._is_open = False  # whether messages can be sent
+        self._is_compressed = False
+        self._unread = 0  # the number of bytes of an incomplete frame
+        self._parts: Optional[List[bytes]] = None  # those of an incomplete message
         self._share: Optional[Share] = None
-        self._has_request = False
-        self._request_len = 0
-        self._parts: List[bytes] = []
-        self._is_drained = True
-        self._heard = self._since = time.monotonic()
+        self._viewer: Optional[Viewer] = None
+        self._heard = time.monotonic()  # when a viewer has last sent something
         self._is_pinged = False
 
     # ---- what asyncio calls
@@ -145,6 +134,7 @@ class Connection(asyncio.Protocol):
         self._server.connections.add(self)
 
     def connection_lost(self, error: Optional[Exception]) -> None:
+        self._is_open = False
         self._server.connections.discard(self)
         self._leave()
 
@@ -153,69 +143,95 @@ class Connection(asyncio.Protocol):
             self._share.remove(self._viewer)
 
     def pause_writing(self) -> None:
-        self._is_drained = False
+        if self._viewer is not None:
+            self._viewer.is_drained = False
 
     def resume_writing(self) -> None:
-        self._is_drained = True
-        if self._share is not None and self._viewer is not None and self._viewer.is_behind:
-            self._share.offer(self._viewer)
+        if self._share is not None and self._viewer is not None:
+            self._viewer.is_drained = True
+            if self._viewer.is_behind:
+                self._share.offer(self._viewer)
 
     def data_received(self, data: bytes) -> None:
-        self._heard, self._is_pinged = time.monotonic(), False
-        if not self._has_request:
-            self._request_len += len(data)
+        if self._viewer is not None:
+            self._heard, self._is_pinged = time.monotonic(), False
         try:
-            self._protocol.receive_data(data)
-            for event in self._protocol.events_received():
-                self._take(event)
+            if self._request is not None:
+                data = self._read_request(self._request + data)
+            if data and (self._is_open or self._protocol is not None):
+                self._read_frames(data)
         except messages.Nonsense as fault:
             self._cut_off(_VIOLATION, str(fault))
-        except Exception:  # what a version of the package raises for a malformed request
-            if self._has_request:
-                raise
-            self._transport.abort()
-        if not self._has_request and self._request_len > _MAX_REQUEST:
-            self._transport.abort()
-        self._flush()
 
     def eof_received(self) -> bool:
+        self._is_open = False
         return False  # closes the connection
+
+    # ---- the request
+
+    def _read_request(self, data: bytes) -> bytes:
+        """Replies to a request, if the data contains all of it. Returns the data after it."""
+        end = data.find(_END_OF_REQUEST) + len(_END_OF_REQUEST)
+        if end < len(_END_OF_REQUEST) and len(data) <= _MAX_REQUEST:
+            self._request = data
+            return b""
+        self._request = None
+        self._heard = time.monotonic()
+        protocol, requests = self._sockets.handshake(), []
+        try:
+            if end <= _MAX_REQUEST:
+                protocol.receive_data(data[:end])
+                requests = protocol.events_received()
+        except Exception:  # what a version of the package raises for a malformed request
+            pass
+        if not requests:
+            self._transport.abort()
+            return b""
+        protocol.send_response(self._response(protocol, requests[0]))
+        self._write(protocol)
+        self._is_open = self._sockets.is_open(protocol)
+        self._is_compressed = self._sockets.compresses(protocol)
+        return data[end:]
+
+    def _response(self, protocol: Any, request: Any) -> Any:
+        found: Optional[Response] = self._server.site.respond(request.path, request.headers)
+        if found is None:
+            return protocol.accept(request)
+        headers = self._sockets.headers(found.headers)
+        return self._sockets.response(found.status, found.reason, headers, found.body)
 
     # ---- messages
 
-    @property
-    def _is_open(self) -> bool:
-        return bool(self._protocol.state.name == "OPEN")
+    def _read_frames(self, data: bytes) -> None:
+        protocol = self._begin()
+        self._unread += len(data)
+        protocol.receive_data(data)
+        self._unread -= self._sockets.received_len(protocol)
+        for frame in protocol.events_received():
+            if frame.opcode < _CLOSE and self._is_open:
+                self._take(frame)
+        self._flush()
 
-    def _take(self, event: Any) -> None:
-        """Takes a request, or a frame of a WebSocket."""
-        if not hasattr(event, "opcode"):
-            self._has_request = True
-            self._request(event)
-            return
-        kind = event.opcode.name
-        if kind in ("PING", "PONG", "CLOSE") or not self._is_open:
-            return
-        if kind == "TEXT":
+    def _begin(self) -> Any:
+        """Returns the protocol."""
+        if self._protocol is None:
+            self._protocol = self._sockets.protocol(self._is_compressed)
+        return self._protocol
+
+    def _take(self, frame: Any) -> None:
+        """Takes a frame with a message or a part of one."""
+        if frame.opcode == _TEXT:
             raise messages.Nonsense("messages are binary")
-        self._parts.append(bytes(event.data))
-        if event.fin:
-            message, self._parts = b"".join(self._parts), []
+        if frame.fin and self._parts is None:
+            self._message(bytes(frame.data))
+            return
+        self._parts = self._parts or []
+        self._parts.append(bytes(frame.data))
+        if frame.fin:
+            message, self._parts = b"".join(self._parts), None
             self._message(message)
         elif len(self._parts) > messages.MAX_RECEIVED:
             raise messages.Nonsense("too many fragments")
-
-    def _request(self, request: Any) -> None:
-        found = self._server.site.respond(request.path, request.headers)
-        self._since = time.monotonic()
-        if found is None:
-            self._protocol.send_response(self._protocol.accept(request))
-        else:
-            self._protocol.send_response(self._response(found))
-
-    def _response(self, found: Response) -> Any:
-        headers = self._server.headers(found.headers)
-        return self._server.response(found.status, found.reason, headers, found.body)
 
     def _message(self, message: bytes) -> None:
         if self._share is not None and self._viewer is not None:
@@ -228,16 +244,26 @@ class Connection(asyncio.Protocol):
         if share is None or share.viewer_count >= self._server.max_viewers:
             self._cut_off(_TRY_LATER, "there are too many viewers, or there is no program")
             return
-        self._share, self._viewer = share, Viewer(may_write, self._send, lambda: self._is_drained)
+        self._share, self._viewer = share, Viewer(may_write, self._send)
+        self._viewer.is_drained = self._transport.get_write_buffer_size() == 0
         share.add(self._viewer)
 
     def _send(self, message: bytes) -> None:
-        if self._is_open and not self._transport.is_closing():
-            self._transport.write(self._server.frame(message))
+        if self._is_open:
+            self._transport.write(self._sockets.frame(message, self._is_compressed))
 
     def _flush(self) -> None:
-        """Writes what the protocol has to send. An empty chunk ends the connection."""
-        for data in self._protocol.data_to_send():
+        """Writes what the protocol has to send. If it is between two messages, it is then like any
+        other, and is given back: 10,000 protocols would take 14 MB."""
+        self._write(self._protocol)
+        self._is_open = self._sockets.is_open(self._protocol)
+        if self._is_open and self._unread == 0 and self._parts is None:
+            self._sockets.give_back(self._protocol, self._is_compressed)
+            self._protocol = None
+
+    def _write(self, protocol: Any) -> None:
+        """Writes what a protocol has to send. An empty chunk ends the connection."""
+        for data in protocol.data_to_send():
             if self._transport.is_closing():
                 return
             if data:
@@ -251,15 +277,15 @@ class Connection(asyncio.Protocol):
         """Ends the connection of a viewer that broke a rule."""
         self._leave()
         if self._is_open:
-            self._protocol.fail(code, reason)
-        self._flush()
+            self._begin().fail(code, reason)
+            self._flush()
 
     def end(self, code: int, reason: str) -> None:
         """Begins the end of the connection."""
         if self._is_open:
-            self._protocol.send_close(code, reason)
+            self._begin().send_close(code, reason)
             self._flush()
-        elif self._is_drained:
+        elif self._protocol is None:
             self._transport.close()
 
     def abort(self) -> None:
@@ -267,13 +293,10 @@ class Connection(asyncio.Protocol):
 
     def check_time(self, now: float) -> None:
         """Cuts off a connection that is silent or that does not get on, and pings a silent one."""
-        if self._viewer is None:
-            is_over = now - self._since > _PATIENCE
-        else:
-            is_over = now - self._heard > GONE_AFTER
-        if is_over or self._transport.is_closing() and now - self._heard > _PATIENCE:
+        patience = _PATIENCE if self._viewer is None else GONE_AFTER
+        if now - self._heard > (_PATIENCE if self._transport.is_closing() else patience):
             self._transport.abort()
         elif self._is_open and not self._is_pinged and now - self._heard > PING_AFTER:
             self._is_pinged = True
-            self._protocol.send_ping(b"")
+            self._begin().send_ping(b"")
             self._flush()

@@ -35,26 +35,10 @@ class Tokens:
         return False if reads else None
 
 
-class _Bucket:
-    """A limit: `rate` per second on average, `burst` at once."""
-
-    __slots__ = ("_rate", "_burst", "_left", "_at")
-
-    def __init__(self, rate: float, burst: float) -> None:
-        self._rate, self._burst, self._left, self._at = rate, burst, burst, time.monotonic()
-
-    def take(self, count: float) -> bool:
-        """Takes `count` from what is allowed. Returns whether there was enough."""
-        now = time.monotonic()
-        self._left = min(self._burst, self._left + (now - self._at) * self._rate) - count
-        self._at = now
-        return self._left >= 0
-
-
 class Viewer:
     """A viewer whose token was right.
 
-    `send` sends a message, and `is_drained` returns whether all that was sent before has left the
+    `send` sends a message. Who sets `is_drained` says whether all that was sent has left the
     process.
     """
 
@@ -64,41 +48,36 @@ class Viewer:
         "title_number",
         "is_behind",
         "has_end",
+        "is_drained",
         "_send",
-        "_is_drained",
         "_sent",
         "_read",
-        "_messages",
-        "_bytes",
+        "_messages_left",
+        "_bytes_left",
+        "_at",
     )
 
-    def __init__(
-        self, may_write: bool, send: Callable[[bytes], None], is_drained: Callable[[], bool]
-    ) -> None:
+    def __init__(self, may_write: bool, send: Callable[[bytes], None]) -> None:
         self.may_write = may_write
         self.version: Optional[int] = None
         self.title_number = 0
         self.is_behind = False
         self.has_end = False
-        self._send, self._is_drained = send, is_drained
+        self.is_drained = True
+        self._send = send
         self._sent = self._read = 0
-        self._messages = _Bucket(MESSAGE_RATE, MESSAGE_BURST)
-        self._bytes = _Bucket(BYTE_RATE, BYTE_BURST)
+        self._messages_left, self._bytes_left = MESSAGE_BURST, BYTE_BURST
+        self._at = time.monotonic()
 
     @property
     def has_room(self) -> bool:
         """Whether the viewer has read enough of what it was sent to get more."""
-        return self._is_drained() and self._sent - self._read <= WINDOW
+        return self.is_drained and self._sent - self._read <= WINDOW
 
     @property
     def read_len(self) -> int:
         """The number of bytes that the viewer has acknowledged."""
         return self._read
-
-    @property
-    def is_drained(self) -> bool:
-        """Whether all that was sent has left the process."""
-        return self._is_drained()
 
     def send_screen(self, message: bytes, version: int) -> None:
         """Sends an update or a redraw, which must be acknowledged."""
@@ -113,8 +92,7 @@ class Viewer:
     def receive(self, message: bytes) -> Optional[bytes]:
         """Takes a message of the viewer. Returns what was typed, or None for an acknowledgement.
         Raises `Nonsense` if the viewer may not send this message, or sends too much."""
-        if not (self._messages.take(1) and self._bytes.take(len(message))):
-            raise Nonsense("too many messages")
+        self._take(len(message))
         kind = message[:1]
         if kind == b"a":
             self._acknowledge(messages.count_of(message))
@@ -122,6 +100,16 @@ class Viewer:
         if kind == b"i" and self.may_write:
             return message[1:]
         raise Nonsense("not a message of a viewer")
+
+    def _take(self, count: int) -> None:
+        """Takes a message with `count` bytes from what the viewer may send."""
+        now = time.monotonic()
+        passed, self._at = now - self._at, now
+        may_send = min(MESSAGE_BURST, self._messages_left + passed * MESSAGE_RATE) - 1
+        may_fill = min(BYTE_BURST, self._bytes_left + passed * BYTE_RATE) - count
+        self._messages_left, self._bytes_left = may_send, may_fill
+        if may_send < 0 or may_fill < 0:
+            raise Nonsense("too many messages")
 
     def _acknowledge(self, count: int) -> None:
         more = (count - self._read) % messages.COUNT_MODULUS

@@ -1,0 +1,280 @@
+"""Tests of the connections of vt100.share: frames, compression, who is left out, and limits."""
+
+import asyncio
+import struct
+import subprocess
+import unittest
+import zlib
+from unittest import mock
+
+from sharing import Client, Closed, Shared, needs_websockets
+from vt100.share import _loop, _viewers
+from vt100.share._messages import Nonsense
+from vt100.share._sockets import NoLibrary, WebSockets
+
+try:
+    from websockets.extensions.permessage_deflate import ClientPerMessageDeflateFactory
+except ImportError:
+    ClientPerMessageDeflateFactory = None
+
+ECHO = ["sh", "-c", "stty -echo raw; exec cat"]
+CONTINUATION, TEXT, BINARY, PING = 0, 1, 2, 9
+COMPRESSED = 0x40
+
+
+def frame(kind, data, is_last=True, length=None):
+    """Returns a masked frame. `length` is how its length is encoded, if it is not the usual way."""
+    mask = b"\x01\x02\x03\x04"
+    if length is None:
+        count = len(data)
+        length = bytes([0x80 | count]) if count < 126 else struct.pack(">BH", 0xFE, count)
+    masked = bytes(byte ^ mask[at % 4] for at, byte in enumerate(data))
+    return bytes([kind | (0x80 if is_last else 0)]) + length + mask + masked
+
+
+def packed(data):
+    """Returns a compressed message (RFC 7692, section 7.2.1)."""
+    deflate = zlib.compressobj(wbits=-15)
+    return (deflate.compress(data) + deflate.flush(zlib.Z_SYNC_FLUSH))[:-4]
+
+
+class Compressing(Client):
+    """A viewer that asks for compression."""
+
+    def __init__(self, port, **how):
+        super().__init__(port)
+        self.protocol.available_extensions = [ClientPerMessageDeflateFactory(**how)]
+
+
+@needs_websockets
+class Frames(unittest.TestCase):
+    def _typed(self, *chunks, others=(), size=(24, 80)):
+        """Returns what the program has read after a viewer has sent chunks, and another one whole
+        messages in between. Each message ends with `;`."""
+
+        async def check():
+            async with Shared(ECHO, size) as shared:
+                first, second = [await shared.viewer(shared.tokens.write) for _ in range(2)]
+                await asyncio.gather(first.until(""), second.until(""))
+                for number, chunk in enumerate(chunks):
+                    first.writer.write(chunk)
+                    await first.writer.drain()
+                    if number < len(others):
+                        await asyncio.sleep(0.02)
+                        await second.send(b"i" + others[number])
+                        await second.until(others[number].decode())
+                await first.send(b"i.")
+                await first.until(".")
+                self.assertEqual(shared.share.viewer_count, 2)
+                return first.parser.contents()
+
+        return asyncio.run(check())
+
+    def test_a_frame_may_arrive_in_any_chunks(self):
+        chunks, others, expected = [], [], ""
+        data = frame(BINARY, b"i<one>")
+        for at in range(1, len(data)):
+            chunks += data[:at], data[at:]
+            others += b"(%d)" % at, b"[%d]" % at
+            expected += f"({at})<one>[{at}]"
+        self.assertEqual(self._typed(*chunks, others=others, size=(24, 200)), expected + ".")
+
+    def test_frames_may_arrive_together(self):
+        data = b"".join(frame(BINARY, b"i%d" % number) for number in range(10))
+        whole = self._typed(data[:50], data[50:], others=[b"a", b"b"])
+        self.assertEqual(whole, "012345a6789b.")
+
+    def test_a_message_may_have_fragments_with_a_ping_in_between(self):
+        first, second = frame(BINARY, b"i<o", False), frame(CONTINUATION, b"ne>")
+        ping = frame(PING, b"?")
+        self.assertEqual(self._typed(first, ping, second, others=[b"a", b"b"]), "ab<one>.")
+
+    def test_lengths_may_be_longer_than_necessary(self):
+        long = struct.pack(">BH", 0xFE, 2), struct.pack(">BQ", 0xFF, 2)
+        data = frame(BINARY, b"ix", length=long[0]) + frame(BINARY, b"iy", length=long[1])
+        whole = self._typed(data[:3], data[3:12], data[12:], others=[b"a", b"b", b"c"])
+        self.assertEqual(whole, "axbyc.")
+
+    def test_idle_connections_need_no_protocol(self):
+        async def check():
+            async with Shared(ECHO) as shared:
+                for make in (Client, Client, Compressing, Compressing):
+                    viewer = await make(shared.port).open(shared.tokens.write)
+                    await viewer.send(b"iword")
+                    await viewer.until("word")
+                found = [connection._protocol for connection in shared.server.connections]
+                self.assertEqual(found, [None] * 4)
+
+        asyncio.run(check())
+
+    def test_viewers_get_the_same_frame(self):
+        async def check():
+            async with Shared(ECHO) as shared:
+                viewers = [await shared.viewer(shared.tokens.write) for _ in range(6)]
+                await asyncio.gather(*(viewer.until("") for viewer in viewers))
+                before = shared.server.sockets.frame.cache_info().misses
+                await viewers[0].send(b"iword")
+                await asyncio.gather(*(viewer.until("word") for viewer in viewers))
+                self.assertEqual(shared.server.sockets.frame.cache_info().misses, before + 1)
+
+        asyncio.run(check())
+
+
+@needs_websockets
+class Compression(unittest.TestCase):
+    def test_viewers_with_and_without_compression_see_the_same(self):
+        async def check():
+            async with Shared(ECHO) as shared:
+                token = shared.tokens.write
+                viewers = [await Compressing(shared.port).open(token) for _ in range(3)]
+                viewers.append(await shared.viewer())
+                for _ in range(5):
+                    await viewers[0].send(b"i" + b"word " * 100)
+                await viewers[0].send(b"iend")
+                await asyncio.gather(*(viewer.until("end") for viewer in viewers))
+                for viewer in viewers:
+                    self.assertEqual(viewer.parser.state_formatted(), shared.contents)
+                for viewer in viewers[:3]:
+                    (extension,) = viewer.protocol.extensions
+                    self.assertTrue(extension.local_no_context_takeover)
+                    self.assertTrue(extension.remote_no_context_takeover)
+
+        asyncio.run(check())
+
+    def test_frames_are_short(self):
+        sockets, message = WebSockets(), b"D" + b"word " * 100
+        self.assertLess(len(sockets.frame(message, True)), 40)
+        self.assertEqual(sockets.frame(message, False), b"\x82\x7e\x01\xf5" + message)
+        self.assertEqual(sockets.frame(b"Dx", True), b"\x82\x02Dx")
+        # What compression makes longer is sent as it is.
+        message = bytes(range(33, 127))
+        self.assertEqual(sockets.frame(message, True)[:2], bytes((0x82, len(message))))
+
+    def test_smaller_windows_are_refused(self):
+        async def check():
+            async with Shared(ECHO) as shared:
+                viewer = Compressing(shared.port, server_max_window_bits=9)
+                await viewer.open(shared.tokens.write)
+                self.assertEqual(viewer.protocol.extensions, [])
+                await viewer.send(b"i" + b"word " * 100)
+                await viewer.until("word word word")
+
+        asyncio.run(check())
+
+    def _ends(self, make, data):
+        """Returns the code with which a connection ends after some bytes."""
+
+        async def check():
+            async with Shared(ECHO) as shared:
+                viewer = await make(shared.port).open(shared.tokens.write)
+                await viewer.until("")
+                viewer.writer.write(data)
+                with self.assertRaises(Closed) as raised:
+                    await viewer.until("never")
+                await (await shared.viewer()).until("")
+                self.assertEqual(shared.share.viewer_count, 1)
+                return raised.exception.args
+
+        return asyncio.run(check())
+
+    def test_malformed_and_long_messages_end_the_connection(self):
+        for make, data, code in (
+            (Compressing, frame(BINARY | COMPRESSED, b"\xff\xff\xff"), 1002),
+            (Compressing, frame(BINARY | COMPRESSED, packed(b"i" + bytes(1 << 24))[:16000]), 1009),
+            (Compressing, frame(TEXT | COMPRESSED, packed(b"i")), 1008),
+            (Compressing, frame(BINARY | COMPRESSED, packed(b"q")), 1008),
+            (Client, frame(BINARY | COMPRESSED, packed(b"ix")), 1002),
+            (Client, frame(BINARY | 0x20, b"ix"), 1002),
+        ):
+            with self.subTest(data[:12]):
+                self.assertEqual(self._ends(make, data), (code,))
+
+
+@needs_websockets
+class LeftOut(unittest.TestCase):
+    def test_who_has_not_drained_is_left_out(self):
+        async def check():
+            async with Shared(ECHO) as shared:
+                writer, other = await shared.viewer(shared.tokens.write), await shared.viewer()
+                await asyncio.gather(writer.until(""), other.until(""))
+                connections = {one._viewer.may_write: one for one in shared.server.connections}
+                connections[False].pause_writing()
+                for number in range(5):
+                    await writer.send(b"i%d" % number)
+                    await writer.until(str(number))
+                with self.assertRaises(asyncio.TimeoutError):
+                    await asyncio.wait_for(other.next(), 0.2)
+                connections[False].resume_writing()
+                await other.until("01234")
+                self.assertEqual(other.updates, 1)
+
+        asyncio.run(check())
+
+    def test_the_room_of_a_viewer(self):
+        sent = []
+        viewer = _viewers.Viewer(False, sent.append)
+        viewer.send_screen(bytes(_viewers.WINDOW), 1)
+        self.assertTrue(viewer.has_room)
+        viewer.send_screen(b"x", 2)
+        self.assertFalse(viewer.has_room)
+        viewer.receive(b"a" + struct.pack(">I", 1))
+        self.assertTrue(viewer.has_room)
+        viewer.is_drained = False
+        self.assertFalse(viewer.has_room)
+
+
+class Limits(unittest.TestCase):
+    def setUp(self):
+        self.now = 1000.0
+        patch = mock.patch("vt100.share._viewers.time.monotonic", lambda: self.now)
+        patch.start()
+        self.addCleanup(patch.stop)
+        self.viewer = _viewers.Viewer(True, lambda message: None)
+
+    def _count(self, message):
+        """Returns how many messages the viewer may send now."""
+        for count in range(10000):
+            try:
+                self.viewer.receive(message)
+            except Nonsense:
+                return count
+
+    def test_messages(self):
+        self.assertEqual(self._count(b"a\0\0\0\0"), 600)
+        self.now += 1.0
+        self.assertEqual(self._count(b"a\0\0\0\0"), 199)  # one was refused
+        self.now += 3600.0
+        self.assertEqual(self._count(b"a\0\0\0\0"), 600)
+
+    def test_bytes(self):
+        self.assertEqual(self._count(b"i" + bytes(4095)), 64)
+        self.now += 1.0
+        self.assertEqual(self._count(b"i" + bytes(4095)), 15)
+
+
+class Loop(unittest.TestCase):
+    async def _wait_for_child(self):
+        ended = asyncio.Event()
+        _loop.watch_children(ended.set)
+        try:
+            process = subprocess.Popen(["sh", "-c", "exit 3"])
+            await asyncio.wait_for(ended.wait(), 10)
+            return process.wait(10)
+        finally:
+            _loop.ignore_children()
+
+    def test_children_are_watched_with_and_without_uvloop(self):
+        self.assertEqual(_loop.run(self._wait_for_child()), 3)
+        with mock.patch.dict("sys.modules", uvloop=None):
+            self.assertEqual(_loop.run(self._wait_for_child()), 3)
+
+
+class Libraries(unittest.TestCase):
+    def test_a_missing_library_is_one_clear_line(self):
+        with mock.patch.dict("sys.modules", {"websockets.server": None}):
+            with self.assertRaisesRegex(NoLibrary, "^the package websockets is required: [^\n]*$"):
+                WebSockets()
+
+
+if __name__ == "__main__":
+    unittest.main()
