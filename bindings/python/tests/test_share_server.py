@@ -79,6 +79,25 @@ class Frames(unittest.TestCase):
             expected += f"({at})<one>[{at}]"
         self.assertEqual(self._typed(*chunks, others=others, size=(24, 200)), expected + ".")
 
+    def test_a_request_may_arrive_in_chunks_and_with_the_first_frames(self):
+        async def check():
+            async with Shared(ECHO) as shared:
+                viewer = Client(shared.port)
+                streams = await asyncio.open_connection("127.0.0.1", shared.port)
+                viewer.reader, viewer.writer = streams
+                Client.writers.append(viewer.writer)
+                viewer.protocol.send_request(viewer.protocol.connect())
+                request = b"".join(viewer.protocol.data_to_send())
+                token = frame(BINARY, b"t" + shared.tokens.write.encode())
+                data = request + token + frame(BINARY, b"iword")
+                cut = len(request) - 2
+                viewer.writer.write(data[:cut])
+                await asyncio.sleep(0.05)
+                viewer.writer.write(data[cut:])
+                await viewer.until("word")
+
+        asyncio.run(check())
+
     def test_frames_may_arrive_together(self):
         data = b"".join(frame(BINARY, b"i%d" % number) for number in range(10))
         whole = self._typed(data[:50], data[50:], others=[b"a", b"b"])

@@ -170,17 +170,19 @@ class Connection(asyncio.Protocol):
     # ---- the request
 
     def _read_request(self, data: bytes) -> bytes:
-        """Replies to a request, if the data contains all of it. Returns the data after it."""
-        end = data.find(_END_OF_REQUEST) + len(_END_OF_REQUEST)
-        if end < len(_END_OF_REQUEST) and len(data) <= _MAX_REQUEST:
+        """Replies to a request, if the data contains all of it. Returns the data after it. Ends the
+        connection if the request is malformed or too long."""
+        end = data.find(_END_OF_REQUEST)
+        if end < 0 and len(data) <= _MAX_REQUEST:
             self._request = data
             return b""
         self._request = None
         self._heard = time.monotonic()
         protocol, requests = self._sockets.handshake(), []
+        rest = end + len(_END_OF_REQUEST)
         try:
-            if end <= _MAX_REQUEST:
-                protocol.receive_data(data[:end])
+            if 0 <= end <= _MAX_REQUEST:
+                protocol.receive_data(data[:rest])
                 requests = protocol.events_received()
         except Exception:  # what a version of the package raises for a malformed request
             pass
@@ -191,7 +193,7 @@ class Connection(asyncio.Protocol):
         self._write(protocol)
         self._is_open = self._sockets.is_open(protocol)
         self._is_compressed = self._sockets.compresses(protocol)
-        return data[end:]
+        return data[rest:]
 
     def _response(self, protocol: Any, request: Any) -> Any:
         found: Optional[Response] = self._server.site.respond(request.path, request.headers)
