@@ -193,6 +193,7 @@ static size_t take_frame(struct viewer *viewer, const uint8_t *frame, size_t len
     if (kind == 'F' || kind == 'D') take_screen(viewer, message, message_len, count, time);
     viewer->figures.has_end |= kind == 'X';
     if (frame[0] == 0x88) hang_up(viewer);
+    if (frame[0] == 0x89) transmit(viewer, "\x8a\x80\0\0\0\0", 6); /* a ping */
     return head + count;
 }
 
@@ -295,7 +296,7 @@ int main(int argc, char **argv) {
             if (viewer->state == CONNECTING) request(viewer);
             else if (viewer->fd >= 0 && !viewer->is_slow) receive(viewer, ROOM);
         }
-        for (int k = 0; k < restless && next >= restless; k++) act(&viewers[k], time, time > calm);
+        for (int k = 0; k < restless && is_open; k++) act(&viewers[k], time, time > calm);
         if (time - last >= 50000000) {
             for (int k = count - late - slow; k < count - late; k++)
                 serve_slow(&viewers[k], (time - last) * SLOW_RATE / 1000000000);
