@@ -10,7 +10,7 @@ import struct
 import sys
 import zlib
 
-from vt100.share import _loop, _messages, _server, _share, _site, _viewers
+from vt100.share import _cohort, _loop, _messages, _server, _share, _site, _viewers
 from vt100.share._program import Program
 
 HERE = os.path.dirname(os.path.abspath(__file__))
@@ -53,6 +53,7 @@ class Cohort(_share.Cohort):
         super().advance()
         if self.version > before:
             self._oldest[before] = self._waiting
+            self._oldest.pop(before - _cohort.KEPT, None)
         self._waiting = 0
 
     def _message(self, version):
