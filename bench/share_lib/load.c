@@ -83,6 +83,7 @@ static void take_screen(struct viewer *viewer, const uint8_t *message, size_t le
     if (figures->seen_count == viewer->seen_room)
         viewer->seen = realloc(viewer->seen, 4 * (viewer->seen_room = 2 * viewer->seen_room + 16));
     viewer->seen[figures->seen_count++] = (uint32_t)(slot - slots);
+    joining -= !viewer->has_screen;
     viewer->has_screen = 1;
     viewer->read += (uint32_t)len;
     figures->bytes += packed_len;
@@ -90,7 +91,7 @@ static void take_screen(struct viewer *viewer, const uint8_t *message, size_t le
 }
 
 static void hang_up(struct viewer *viewer) {
-    joining -= viewer->state == CONNECTING || viewer->state == HANDSHAKE;
+    joining -= !viewer->has_screen;
     if (viewer->fd >= 0) close(viewer->fd);
     cut_off += (uint64_t)viewer->is_doomed;
     viewer->state = viewer->figures.has_end || !viewer->is_restless ? GONE : AWAY;
@@ -172,7 +173,6 @@ static size_t take_response(struct viewer *viewer) {
     uint8_t *end = memmem(viewer->input, viewer->len, "\r\n\r\n", 4);
     if (end == NULL) return 0;
     if (memcmp(viewer->input, "HTTP/1.1 101", 12) != 0) { refused++; hang_up(viewer); return 0; }
-    joining--;
     viewer->state = OPEN;
     send_message(viewer, token, strlen(token));
     return (size_t)(end + 4 - viewer->input);
