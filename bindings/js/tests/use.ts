@@ -1,4 +1,6 @@
 // Compiled, and not run: the declarations accept what they should, and reject the rest.
+import { keyText, pasteText } from "../keys.js";
+import { mouseBytes } from "../mouse.js";
 import { CursorStyle, Repeat, Screen, load } from "../vt100.js";
 import type { Cell, Color, Mirror, Parser, Vt100 } from "../vt100.js";
 
@@ -28,8 +30,12 @@ const whole: Uint8Array = parser.allBytes(new Uint8Array(40 * 24 * 80));
 const mirror: Mirror = new vt100.Mirror();
 const viewer: bigint = mirror.join();
 const { text, size } = mirror.update(viewer);
+const key = { key: "a", ctrlKey: false, altKey: false, shiftKey: false, metaKey: false, isComposing: false };
+const typed: string = (keyText(key, parser) ?? "") + pasteText("text", parser.state);
+const press = { type: "mousedown", button: 0, buttons: 1, shiftKey: false, altKey: false, ctrlKey: false };
+const report: Uint8Array | null = mouseBytes(press, parser.cursor, parser.state);
 saved[Symbol.dispose]();
-console.log(cell?.text, last?.text, whole.length, color, diff, isBar, isScreen, text, size?.rows);
+console.log(cell?.text, color, diff, isBar, isScreen, text, size?.rows, typed, report);
 
 // @ts-expect-error
 parser.process(7);
