@@ -1,17 +1,18 @@
 import { Cast } from "./cast.js";
 import { CastPlayer } from "./cast_player.js";
+import { adoptStyle } from "./styles.js";
 import { TerminalView } from "./terminal_view.js";
 import { Theme } from "./theme.js";
 
+const STYLE = `
+  :host { display: block; font: 13px system-ui, sans-serif; }
+  :host([hidden]) { display: none; }
+  .controls { display: flex; gap: 8px; align-items: center; padding: 6px 0; }
+  input[type=range] { flex: 1; min-width: 60px; }
+  button { min-width: 4em; }
+  output { font-variant-numeric: tabular-nums; }
+`;
 const TEMPLATE = `
-  <style>
-    :host { display: block; font: 13px system-ui, sans-serif; }
-    :host([hidden]) { display: none; }
-    .controls { display: flex; gap: 8px; align-items: center; padding: 6px 0; }
-    input[type=range] { flex: 1; min-width: 60px; }
-    button { min-width: 4em; }
-    output { font-variant-numeric: tabular-nums; }
-  </style>
   <div class="view"></div>
   <div class="controls" role="group" aria-label="Player">
     <button type="button" part="button">Play</button>
@@ -50,6 +51,7 @@ export class CastPlayerElement extends HTMLElement {
     super();
     const root = this.attachShadow({ mode: "open" }), find = (selector) => root.querySelector(selector);
     root.innerHTML = TEMPLATE;
+    adoptStyle(root, STYLE);
     this.#view = new TerminalView();
     find(".view").append(this.#view);
     [this.#button, this.#slider, this.#output] = [find("button"), find("input"), find("output")];

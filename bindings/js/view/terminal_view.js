@@ -6,6 +6,7 @@ import { PointerSelection } from "./pointer_selection.js";
 import { RowStore } from "./row_store.js";
 import { Selection, wordAt } from "./selection.js";
 import { lineOf, textBetween } from "./selection_text.js";
+import { adoptStyle } from "./styles.js";
 import { Theme } from "./theme.js";
 
 const STYLE = `
@@ -50,12 +51,12 @@ export class TerminalView extends HTMLElement {
 
   constructor() {
     super();
-    const root = this.attachShadow({ mode: "open" }), style = document.createElement("style");
-    style.textContent = STYLE;
+    const root = this.attachShadow({ mode: "open" });
+    adoptStyle(root, STYLE);
     this.#canvas = document.createElement("canvas");
     this.#canvas.setAttribute("aria-hidden", "true");
     this.#accessible = new AccessibleText(document);
-    root.append(style, this.#canvas, this.#accessible.element);
+    root.append(this.#canvas, this.#accessible.element);
     this.#painter = new Painter(this.#canvas.getContext("2d", { alpha: false }));
     this.#pointer = new PointerSelection(this.#pointerTarget());
     this.#canvas.addEventListener("mousedown", (event) => this.#mouseDown(event));
@@ -332,9 +333,11 @@ export class TerminalView extends HTMLElement {
     const state = this.#stateOfScreen();
     if (state === null || event.ctrlKey || this.#isForProgram(event, state)) return;
     const unit = [1 / this.cellHeight, 1, this.#rows][event.deltaMode];
-    const all = this.#turned + event.deltaY * unit, count = Math.trunc(all);
+    // With Shift, some browsers turn the wheel sideways.
+    const delta = event.deltaY || (event.shiftKey ? event.deltaX : 0);
+    const all = this.#turned + delta * unit, count = Math.trunc(all);
     this.#turned = all - count;
-    const canScroll = event.deltaY < 0 ? state.scrollback < state.scrollbackLen : state.scrollback > 0;
+    const canScroll = delta < 0 ? state.scrollback < state.scrollbackLen : state.scrollback > 0;
     if (!canScroll) return;
     event.preventDefault();
     if (count !== 0) this.scrollRows(-count);

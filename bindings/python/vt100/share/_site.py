@@ -25,7 +25,9 @@ _TYPES = {
 _PARTS = ("", "lib", "view")
 
 #: Files without which the page cannot work.
-_REQUIRED = ("index.html", "share.js", "vt100.js", "keys.js", "view/view.js", "vt100.wasm")
+_REQUIRED = (
+    "index.html", "share.js", "vt100.js", "keys.js", "mouse.js", "view/view.js", "vt100.wasm"
+)
 
 #: The path of the WebSocket.
 VIEWER = "/viewer"
@@ -38,11 +40,10 @@ _HEADERS = [
     ("X-Frame-Options", "DENY"),
     ("Cross-Origin-Opener-Policy", "same-origin"),
     ("Cross-Origin-Resource-Policy", "same-origin"),
-    # The viewer has its style in a shadow root, which counts as inline.
     (
         "Content-Security-Policy",
         "default-src 'none'; script-src 'self' 'wasm-unsafe-eval'; "
-        "style-src 'self' 'unsafe-inline'; connect-src 'self'; img-src data:; "
+        "style-src 'self'; connect-src 'self'; img-src data:; "
         "base-uri 'none'; form-action 'none'; frame-ancestors 'none'",
     ),
 ]
