@@ -40,9 +40,11 @@ const text = (bytes) => Buffer.from(bytes).toString("latin1");
 const connection = new Connection("ws://host/viewer", "token", {
   redraw: (rows, cols, bytes) => calls.push(`redraw ${rows} ${cols} ${text(bytes)}`),
   update: (bytes) => calls.push(`update ${bytes.length}`),
+  scrolled: (number, count, bytes) => calls.push(`scrolled ${number} ${count} ${text(bytes)}`),
+  viewers: (count, writers) => calls.push(`viewers ${count} ${writers}`),
   title: (title) => calls.push(`title ${title}`),
   mayWrite: (isAllowed) => calls.push(`write ${isAllowed}`),
-  status: (status) => calls.push(`status ${status}`),
+  status: (kind, status) => calls.push(`status ${kind} ${status}`),
 });
 
 // The token is the first message, and updates are acknowledged after 4096 bytes.
@@ -54,15 +56,20 @@ first.receive("F\0\x18\0\x50abc");
 first.receive("Ta title");
 first.receive("D" + "x".repeat(4000));
 assert.deepEqual(first.sent, ["ttoken"]);
-first.receive("D" + "x".repeat(100));
+first.receive("H\xff\xff\xff\xff\0\x02" + "y".repeat(94));
 connection.type("é");
 assert.deepEqual(first.sent, ["ttoken", "a\0\0\x10\x0e", "i\xc3\xa9"]); // 8 + 4001 + 101 bytes
 assert.deepEqual(calls.splice(0),
-  ["write true", "status ", "redraw 24 80 abc", "title a title", "update 4000", "update 100"]);
+  ["write true", "status current ", "redraw 24 80 abc", "title a title", "update 4000", `scrolled 4294967295 2 ${"y".repeat(94)}`]);
+first.receive("V\0\0\x01\0\0\0\0\x02");
+first.receive("S1");
+first.receive("S0");
+assert.deepEqual(calls.splice(0),
+  ["viewers 256 2", "status old The program is out of reach: this screen may be old.", "status current "]);
 
 // A lost connection is replaced, later and later; the count of bytes begins anew.
 first.close(1006);
-assert.match(calls.pop(), /^status Not connected/);
+assert.match(calls.pop(), /^status old Not connected/);
 timers.pop().run();
 sockets[1].close(1006);
 assert.deepEqual(timers.map(({ delay }) => delay), [500]);
@@ -72,13 +79,24 @@ sockets[2].receive("W0");
 sockets[2].receive("F\0\x01\0\x01" + "y".repeat(4091));
 assert.deepEqual(sockets[2].sent, ["ttoken", "a\0\0\x10\0"]);
 
+// A lost connection is replaced at once when the reader is back, but only once.
+sockets[2].close(1006);
+connection.wake();
+assert.equal(sockets.length, 4);
+timers.pop().run();
+assert.equal(sockets.length, 4);
+sockets[3].open();
+sockets[3].receive("W0");
+connection.wake();
+assert.deepEqual(sockets[3].sent, ["ttoken", "a\0\0\0\0"]);
+
 // A viewer that was cut off stays away, and so does one whose program has ended.
 calls.splice(0);
-sockets[2].close(1008, "the token is wrong");
-assert.deepEqual(calls.splice(0), ["status The server has ended the connection: the token is wrong."]);
+sockets[3].close(1008, "the token is wrong");
+assert.deepEqual(calls.splice(0), ["status old The server has ended the connection: the token is wrong."]);
 assert.equal(timers.length, 0);
-new Connection("ws://host/viewer", "token", { status: (status) => calls.push(status) });
-sockets[3].open();
-sockets[3].receive("X7");
-sockets[3].close(1000);
-assert.deepEqual([calls, timers], [["The program has ended with status 7."], []]);
+new Connection("ws://host/viewer", "token", { status: (kind, status) => calls.push([kind, status]) });
+sockets[4].open();
+sockets[4].receive("X7");
+sockets[4].close(1000);
+assert.deepEqual([calls, timers], [[["ended", "The program has ended with status 7."]], []]);

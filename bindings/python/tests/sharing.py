@@ -56,11 +56,53 @@ def noise(seed, count=20000):
     return "".join(parts).encode()
 
 
+def scrollback_of(screen):
+    """Returns the rows of a scrollback: cells, and whether the row is wrapped."""
+    rows = []
+    for number, cells in enumerate(screen.history):
+        screen.set_scrollback(len(screen.history) - number)
+        rows.append((cells, screen.row_wrapped(0)))
+    screen.set_scrollback(0)
+    return rows
+
+
+def first_difference(found, expected):
+    """Returns the first place at which the ends of two lists of rows differ, or None. `found` may
+    begin earlier. (Descriptions of all rows would take minutes to compare.)"""
+    if len(found) < len(expected):
+        return f"{len(found)} rows instead of {len(expected)}"
+    for place, (one, other) in enumerate(zip(found[len(found) - len(expected) :], expected)):
+        if one != other:
+            return f"row {place}: {one} instead of {other}"
+    return None
+
+
+class Rows:
+    """The rows that have scrolled off, as a viewer reads them."""
+
+    def __init__(self, rows, cols):
+        self.parser = vt100.Parser(rows, cols, scrollback=100000)
+        self.end = None
+        self.losses = 0
+
+    def take(self, message):
+        number, count = struct.unpack_from(">IH", message, 1)
+        if self.end not in (None, number):
+            self.parser.clear_scrollback()
+            self.losses += 1
+        self.end = number + count
+        before = len(self.parser.history)
+        self.parser.process(b"\x1b[m\x1b[H\x1b[J" + message[7:])
+        row, _ = self.parser.cursor
+        self.parser.process(b"\x1b[%dH" % self.parser.lines + b"\n" * row)
+        assert len(self.parser.history) == before + count, "not as many rows as the message says"
+
+
 class Terminal:
     """The terminal of a viewer."""
 
     def __init__(self):
-        self.parser = self.title = self.status = self.may_write = None
+        self.parser = self.title = self.status = self.may_write = self.rows = None
         self.read = self.redraws = self.updates = 0
 
     def take(self, message):
@@ -72,13 +114,16 @@ class Terminal:
         elif kind == b"D":
             self.parser.process(message[1:])
             self.updates += 1
+        elif kind == b"H":
+            self.rows = self.rows or Rows(*self.parser.size)
+            self.rows.take(message)
         elif kind == b"T":
             self.title = message[1:].decode()
         elif kind == b"X":
             self.status = int(message[1:])
         else:
             self.may_write = {b"W0": False, b"W1": True}[message]
-        if kind in b"FD":
+        if kind in b"FDH":
             self.read += len(message)
 
 
@@ -98,6 +143,7 @@ class Client(Terminal):
         self.protocol = make(parse_uri(uri), origin=origin)
         self.port, self.host = port, host
         self.messages = []
+        self.received = []
         self.acknowledges = True
 
     async def open(self, token=None):
@@ -138,6 +184,7 @@ class Client(Terminal):
                     raise Closed(event.status_code)
             elif event.opcode.name == "BINARY":
                 self.messages.append(bytes(event.data))
+                self.received.append(self.messages[-1])
             elif event.opcode.name == "CLOSE":
                 await self._flush()
                 raise Closed(int.from_bytes(event.data[:2], "big"))
@@ -176,15 +223,17 @@ class Client(Terminal):
 class Shared:
     """A program and its server, within this process."""
 
-    def __init__(self, command, size=(24, 80), viewers=100):
+    def __init__(self, command, size=(24, 80), viewers=100, scrollback=0):
         self.command, self.size, self.viewers = command, size, viewers
+        self.scrollback = scrollback
 
     async def __aenter__(self):
         self.tokens = Tokens(True)
         self.server = Server(Site(PAGE, "127.0.0.1", []), self.tokens, self.viewers)
         self.port = await self.server.start("127.0.0.1", 0)
         self.program = Program(self.command, *self.size)
-        self.share = self.server.share = Share(self.program, *self.size)
+        self.share = Share(self.program, *self.size, scrollback=self.scrollback)
+        self.server.share = self.share
         return self
 
     async def __aexit__(self, *_):

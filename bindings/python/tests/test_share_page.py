@@ -27,12 +27,52 @@ dd bs=1 count=1 2>/dev/null
 exit 4
 """
 
+MOUSE_PROGRAM = r"""
+stty -echo raw
+printf '\033[?1002h\033[?1006h\033[?2004hready\r\n'
+exec cat -v
+"""
+
+SCROLLED_PROGRAM = r"""
+stty -echo
+seq 300
+n=300
+while read -r line; do
+  n=$((n + 1))
+  echo $n
+done
+"""
+
+COUNTING_PROGRAM = r"""
+stty -echo -icanon min 0 time 0
+n=0
+until [ -n "$(dd bs=1 count=1 2>/dev/null | od -An -c)" ]; do
+  n=$((n + 1))
+  echo $n
+  sleep 0.01
+done
+echo end
+sleep 60
+"""
+
+PHONE_PROGRAM = r"""
+seq 300
+stty -echo raw
+printf 'ready '
+exec cat -vT
+"""
+
 
 @unittest.skipUnless(shutil.which("node"), "there is no node")
-class Connection(unittest.TestCase):
+class Modules(unittest.TestCase):
+    def _run(self, name):
+        subprocess.run(["node", os.path.join(TESTS, name)], check=True, timeout=30)
+
     def test_the_page_acknowledges_and_connects_again(self):
-        script = os.path.join(TESTS, "share_connection.mjs")
-        subprocess.run(["node", script], check=True, timeout=30)
+        self._run("share_connection.mjs")
+
+    def test_input_is_within_the_limits_and_complete(self):
+        self._run("share_input.mjs")
 
 
 @needs_websockets
@@ -40,12 +80,13 @@ class Connection(unittest.TestCase):
 @unittest.skipUnless(shutil.which("node"), "there is no node")
 @unittest.skipUnless(os.path.exists(MODULE), "there is no vt100.wasm")
 class Page(unittest.TestCase):
-    def start(self, folder):
+    def _start(self, folder, program, *options):
+        """Shares a program. Returns the process of the server, and the two addresses."""
         shutil.copy(MODULE, os.path.join(folder, "vt100.wasm"))
         path = os.pathsep.join(filter(None, [os.path.dirname(TESTS), os.environ.get("PYTHONPATH")]))
         share = [sys.executable, "-m", "vt100.share", "--headless", "--write", "--page", folder]
         process = subprocess.Popen(
-            [*share, "--", "sh", "-c", PROGRAM],
+            [*share, *options, "--", "sh", "-c", program],
             stdout=subprocess.PIPE,
             stderr=subprocess.PIPE,
             universal_newlines=True,
@@ -53,16 +94,30 @@ class Page(unittest.TestCase):
         )
         self.addCleanup(process.communicate)
         self.addCleanup(process.kill)
-        return process
+        return process, [re.search(r"http:\S+", process.stdout.readline())[0] for _ in range(2)]
+
+    def _open(self, script, urls, picture=None):
+        """Returns what a script finds on the page."""
+        path = os.environ.get("SHARE_PICTURE")
+        pictures = [path.replace(".png", picture + ".png")] if path and picture is not None else []
+        command = ["node", os.path.join(TESTS, script), *urls, *pictures]
+        found = json.loads(subprocess.check_output(command, timeout=60))
+        self.assertEqual(found["messages"], [])
+        return found
+
+    def _check(self, script, program, *options, picture=None):
+        """Shares a program until a script has found what it reports."""
+        with tempfile.TemporaryDirectory() as folder:
+            process, urls = self._start(folder, program, *options)
+            found = self._open(script, urls, picture)
+            process.terminate()
+            self.assertEqual(process.wait(10), 128 + 15)
+        return found
 
     def test_the_page_shows_the_screen_and_types(self):
         with tempfile.TemporaryDirectory() as folder:
-            process = self.start(folder)
-            urls = [re.search(r"http:\S+", process.stdout.readline())[0] for _ in range(2)]
-            picture = filter(None, [os.environ.get("SHARE_PICTURE")])
-            page = os.path.join(TESTS, "share_page.mjs")
-            output = subprocess.check_output(["node", page, *urls, *picture], timeout=60)
-            found = json.loads(output)
+            process, urls = self._start(folder, PROGRAM)
+            found = self._open("share_page.mjs", urls, "")
             self.assertEqual(process.wait(10), 4)
         self.assertEqual(found["read"], "ready \u65e5\u672c \u250c\u2500")
         self.assertEqual((found["title"], found["status"]), ("a title", ""))
@@ -70,7 +125,60 @@ class Page(unittest.TestCase):
         # An e with an acute accent, the key for the cursor in application mode, and Enter.
         self.assertEqual(found["write"].split("got ")[1].split(), "303 251 033 O A \\r".split())
         self.assertEqual(found["end"], "The program has ended with status 4.")
-        self.assertEqual(found["messages"], [])
+
+    def test_the_mouse_is_the_program_s_unless_shift_is_held(self):
+        found = self._check("share_mouse.mjs", MOUSE_PROGRAM)
+        reports = "<18;5;3M <18;5;3m <0;5;3M <32;8;4M <0;8;4m <65;8;4M".split()
+        self.assertEqual(found["reports"], "ready\n" + "".join("^[[" + one for one in reports))
+        self.assertEqual((found["readerSelects"], found["writerSelects"]), ("ready", "ready"))
+        self.assertEqual((found["isCleared"], found["copied"]), (True, "ready"))
+        self.assertTrue(found["pasted"].endswith("^[[200~ready^[[201~"))
+
+    @unittest.skipUnless(shutil.which("mc"), "there is no mc")
+    def test_mc_answers_keys_and_the_mouse(self):
+        with tempfile.TemporaryDirectory() as home:
+            for name in ("alpha", "beta"):
+                os.mkdir(os.path.join(home, name))
+            program = f"cd {home} && HOME={home} exec mc -u -x"
+            found = self._check("share_mc.mjs", program, picture="-mc")
+            self.assertTrue(os.path.isdir(os.path.join(home, "gamma")))
+            self.assertFalse(os.path.exists(os.path.join(home, "beta")))
+        self.assertIn("/gamma", found["contents"])
+
+    def test_rows_that_have_scrolled_off(self):
+        found = self._check("share_scrollback.mjs", SCROLLED_PROGRAM, "--scrollback", "100")
+        # Of 300 numbers, the last 23 are on the screen, above the empty row of the cursor.
+        self.assertEqual((found["kept"], found["bottom"], found["oldest"]), (100, 278, 178))
+        self.assertEqual((found["page"], found["shown"]), (24, "24 rows back"))
+        self.assertTrue(found["wheel"])
+        self.assertEqual(found["end"], 278)
+        self.assertTrue(found["stays"])
+        self.assertEqual(found["typed"], 2)
+
+    def test_taps_and_sweeps_are_those_of_a_mouse(self):
+        found = self._check("share_tap.mjs", MOUSE_PROGRAM)
+        self.assertTrue(found["tapped"].startswith("ready\n^[[<0;10;4M^[[<0;10;4m"))
+        self.assertEqual((found["focus"], found["keyboard"]), ("", "input"))
+        self.assertRegex(found["swept"], r"\^\[\[<65;5;\d+M")
+
+    def test_the_page_connects_again_without_a_gap(self):
+        found = self._check("share_reconnect.mjs", COUNTING_PROGRAM, "--scrollback", "10000")
+        self.assertTrue(found["lost"].startswith("Not connected"))
+        self.assertTrue(found["isFrozen"])
+        self.assertEqual(found["status"], "")
+        self.assertGreater(found["missed"], 0)
+        self.assertGreater(found["count"], 60)
+
+    def test_a_phone(self):
+        options = ("--scrollback", "1000")
+        found = self._check("share_phone.mjs", PHONE_PROGRAM, *options, picture="-phone")
+        self.assertEqual((found["readerKeys"], found["writerKeys"]), ("none", "flex"))
+        self.assertEqual(found["width"], 390)
+        self.assertEqual((found["focus"], found["focusAfter"]), ("input", "input"))
+        self.assertEqual(found["typed"], "ls^?^[^I^[[A^[[D^Bz")
+        self.assertGreater(found["repeated"], 3)
+        self.assertGreater(found["back"], 3)
+        self.assertTrue(found["end"])
 
 
 if __name__ == "__main__":

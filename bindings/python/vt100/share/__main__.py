@@ -10,6 +10,7 @@ import sys
 from typing import List, Optional, Tuple
 
 from .. import _terminfo
+from ._history import MAX_ROWS as MAX_SCROLLBACK
 from ._local import LocalTerminal, is_available
 from ._loop import ignore_children, run, watch_children
 from ._program import Program
@@ -35,6 +36,12 @@ def _size(text: str) -> Tuple[int, int]:
     return int(rows), int(cols)
 
 
+def _row_count(text: str) -> int:
+    if not text.isdecimal() or int(text) > MAX_SCROLLBACK:
+        raise argparse.ArgumentTypeError(f"a number of rows is from 0 to {MAX_SCROLLBACK}")
+    return int(text)
+
+
 def _arguments(given: Optional[List[str]]) -> argparse.Namespace:
     parser = argparse.ArgumentParser(
         prog="vt100-share", description="Shows a running program to viewers in browsers."
@@ -47,6 +54,8 @@ def _arguments(given: Optional[List[str]]) -> argparse.Namespace:
     add("--write", action="store_true", help="print a second address, whose readers may type")
     add("--size", type=_size, metavar="ROWSxCOLS",
         help="the size of the program's terminal (default: that of this terminal)")
+    add("--scrollback", type=_row_count, default=0, metavar="N",
+        help="let viewers scroll back by N rows (default: 0)")
     add("--headless", action="store_true", help="do not show the program in this terminal")
     add("--linger", type=float, default=0.0, metavar="SECONDS",
         help="how long to show the last screen after the program has ended")
@@ -131,7 +140,7 @@ class _Run:
         recording = local = None
         try:
             recording = self._recording(size)
-            share = Share(program, *size, recording)
+            share = Share(program, *size, recording, self._options.scrollback)
             watch_children(share.check_status)
             server.share = share
             if is_shown:

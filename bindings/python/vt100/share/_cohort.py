@@ -8,6 +8,7 @@ from ..callbacks import Callbacks
 from ..mirror import Mirror
 from ..parser import Parser
 from . import _messages as messages
+from ._history import History
 
 #: The number of past updates that are kept for viewers that have fallen behind.
 KEPT = 64
@@ -32,8 +33,12 @@ class Cohort:
     to the program without delay.
     """
 
-    def __init__(self, rows: int, cols: int, callbacks: Optional[Callbacks] = None) -> None:
-        self.parser = Parser(rows, cols, callbacks=callbacks)
+    def __init__(
+        self, rows: int, cols: int, callbacks: Optional[Callbacks] = None, scrollback: int = 0
+    ) -> None:
+        self.parser = Parser(rows, cols, scrollback, callbacks)
+        #: The rows that had scrolled off when the version began.
+        self.history = History(scrollback)
         self.version = 0
         self.has_changed = False
         self._mirror = Mirror(rows, cols)
@@ -51,6 +56,7 @@ class Cohort:
         self._pending += data
         self.has_changed = True
         self.parser.process(data)
+        self.history.note(data)
 
     @property
     def is_full(self) -> bool:
@@ -62,6 +68,7 @@ class Cohort:
         if not self.has_changed:
             return
         self.has_changed = False
+        self.history.take(self.parser)
         self._mirror.process(self._pending)
         self._pending.clear()
         text, size = self._mirror.update_scrolling(self._viewer)

@@ -5,6 +5,11 @@ From the server to a viewer:
 
     F rows(2) cols(2) text   a new terminal of this size reads the text
     D text                   the terminal reads the text
+    H number(4) count(2) text
+                             rows have scrolled off: how many, and the number of the first one,
+                             modulo 2**32. A blank terminal of the same size, whose cursor is in its
+                             first row and column, reads the text: the rows are those that scroll
+                             off it, and then those above its cursor
     W 0 or 1                 whether the viewer may type; the first message
     T text                   the title of the window
     X digits                 the program has ended with this status
@@ -12,7 +17,7 @@ From the server to a viewer:
 From a viewer to the server:
 
     t token                  the first message: what the address has in its fragment
-    a count(4)               how many bytes of messages F and D the viewer has read, modulo 2**32
+    a count(4)               how many bytes of messages F, D and H the viewer has read, modulo 2**32
     i text                   what was typed
 
 Numbers are big-endian.
@@ -21,6 +26,7 @@ Numbers are big-endian.
 from __future__ import annotations
 
 import struct
+from typing import Sequence
 
 #: The longest message that a viewer may send.
 MAX_RECEIVED = 16384
@@ -30,6 +36,7 @@ MAX_TITLE = 512
 
 _SIZE = struct.Struct(">HH")
 _COUNT = struct.Struct(">I")
+_ROWS = struct.Struct(">IH")
 COUNT_MODULUS = 1 << 32
 
 
@@ -43,6 +50,10 @@ def redraw(rows: int, cols: int, text: bytes) -> bytes:
 
 def update(text: bytes) -> bytes:
     return b"D" + text
+
+
+def history(number: int, rows: Sequence[bytes]) -> bytes:
+    return b"H" + _ROWS.pack(number % COUNT_MODULUS, len(rows)) + b"".join(rows)
 
 
 def may_write(is_allowed: bool) -> bytes:

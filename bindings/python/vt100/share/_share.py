@@ -9,6 +9,7 @@ from ..replies import Replies
 from ..screen import Screen
 from . import _messages as messages
 from ._cohort import Cohort
+from ._history import HistorySender
 from ._program import Program
 from ._recording import Recording
 from ._viewers import Viewer
@@ -61,14 +62,19 @@ class Share:
     """
 
     def __init__(
-        self, program: Program, rows: int, cols: int, recording: Optional[Recording] = None
+        self,
+        program: Program,
+        rows: int,
+        cols: int,
+        recording: Optional[Recording] = None,
+        scrollback: int = 0,
     ) -> None:
         self.ended = asyncio.Event()
         self.status: Optional[int] = None
         self._loop = asyncio.get_running_loop()
         self._program = program
         self._queries = _Queries(self.type)
-        self.cohort = Cohort(rows, cols, self._queries)
+        self.cohort = Cohort(rows, cols, self._queries, scrollback)
         self._recording = recording
         self._viewers: Dict[Viewer, None] = {}
         self._typists: Dict[Viewer, None] = {}
@@ -77,6 +83,8 @@ class Share:
         self._is_scheduled = False
         self._is_final = False
         self._round: Optional[Iterator[Viewer]] = None
+        self._rows = HistorySender(self.cohort.history, self._is_current, self._rows_sent)
+        self.listen(self._rows.wake)
         self._loop.add_reader(program.file, self._read)
 
     # ---- viewers
@@ -94,10 +102,20 @@ class Share:
         self._viewers[viewer] = None
         viewer.send(messages.may_write(viewer.may_write))
         self.offer(viewer)
+        self._rows.add(viewer)
 
     def remove(self, viewer: Viewer) -> None:
         self._viewers.pop(viewer, None)
         self._typists.pop(viewer, None)
+        self._rows.remove(viewer)
+
+    def _is_current(self, viewer: Viewer) -> bool:
+        return viewer.version == self.cohort.version
+
+    def _rows_sent(self, viewer: Viewer) -> None:
+        """Sends the end, for which a viewer has waited until it had all rows."""
+        if self._is_final:
+            self.offer(viewer)
 
     def offer(self, viewer: Viewer, is_forced: bool = False) -> None:
         """Sends a viewer what it has not got, if it has room."""
@@ -111,8 +129,9 @@ class Share:
             viewer.title_number = self._queries.title_number
             viewer.send(messages.title(self._queries.title))
         if self._is_final and not viewer.has_end and self.status is not None:
-            viewer.has_end = True
-            viewer.send(messages.ended(self.status))
+            if self._rows.has_all(viewer) or is_forced:
+                viewer.has_end = True
+                viewer.send(messages.ended(self.status))
 
     def receive(self, viewer: Viewer, message: bytes) -> None:
         """Takes a message of a viewer. Raises `Nonsense` if the viewer must be cut off."""

@@ -45,6 +45,7 @@ class Viewer:
     __slots__ = (
         "may_write",
         "version",
+        "row",
         "title_number",
         "is_behind",
         "has_end",
@@ -60,6 +61,7 @@ class Viewer:
     def __init__(self, may_write: bool, send: Callable[[bytes], None]) -> None:
         self.may_write = may_write
         self.version: Optional[int] = None
+        self.row: Optional[int] = None
         self.title_number = 0
         self.is_behind = False
         self.has_end = False
@@ -82,6 +84,13 @@ class Viewer:
     def send_screen(self, message: bytes, version: int) -> None:
         """Sends an update or a redraw, which must be acknowledged."""
         self.version = version
+        self._sent += len(message)
+        self._send(message)
+
+    def send_rows(self, message: bytes, end: int) -> None:
+        """Sends rows that have scrolled off, up to the one before `end`, which must be
+        acknowledged."""
+        self.row = end
         self._sent += len(message)
         self._send(message)
 

@@ -1,6 +1,8 @@
 // The WebSocket of a viewer: it reads the server's messages, acknowledges them, and connects again when the connection is
 // lost. `_messages.py` describes the messages.
 
+import { Outbox } from "./outbox.js";
+
 const ACKNOWLEDGE_AFTER = 4096;
 const FIRST_DELAY = 250, LONGEST_DELAY = 10000;
 const CUT_OFF = 1008;
@@ -16,8 +18,9 @@ function message(kind, bytes) {
 }
 
 /**
- * The connection to the server. `display` has the methods redraw(rows, cols, bytes), update(bytes), title(text),
- * mayWrite(isAllowed) and status(text), whose text is empty while the screen is current.
+ * The connection to the server. `display` has the methods redraw(rows, cols, bytes), update(bytes), scrolled(number, count,
+ * bytes), title(text), viewers(count, writers), mayWrite(isAllowed) and status(kind, text). The kinds are "current", "old"
+ * if the screen may differ from that of the program, and "ended"; the text says why, and is empty while it is current.
  */
 export class Connection {
   #url;
@@ -27,7 +30,9 @@ export class Connection {
   #read = 0;
   #acknowledged = 0;
   #delay = FIRST_DELAY;
+  #isWaiting = false;
   #hasEnded = false;
+  #outbox = new Outbox((bytes) => this.#send("i", bytes));
 
   constructor(url, token, display) {
     this.#url = url;
@@ -36,12 +41,19 @@ export class Connection {
     this.#connect();
   }
 
-  /** Sends what was typed. While there is no connection, it is lost. */
-  type(text) {
-    this.#send("i", encoder.encode(text));
+  /** Sends what was typed, a string or bytes. While there is no connection, it is lost. */
+  type(input) {
+    if (this.#isOpen) this.#outbox.add(typeof input === "string" ? encoder.encode(input) : input);
+  }
+
+  /** Connects at once if the connection is lost. Called when the network or the reader is back. */
+  wake() {
+    if (this.#isWaiting) this.#connect();
+    else this.#acknowledge(); // which shows whether the connection still exists
   }
 
   #connect() {
+    this.#isWaiting = false;
     const socket = new WebSocket(this.#url);
     socket.binaryType = "arraybuffer";
     this.#socket = socket;
@@ -51,18 +63,26 @@ export class Connection {
     socket.addEventListener("close", ({ code, reason }) => this.#closed(code, reason));
   }
 
+  get #isOpen() {
+    return this.#socket.readyState === WebSocket.OPEN;
+  }
+
   #send(kind, bytes) {
-    if (this.#socket.readyState === WebSocket.OPEN) this.#socket.send(message(kind, bytes));
+    if (this.#isOpen) this.#socket.send(message(kind, bytes));
   }
 
   #take(data) {
-    const bytes = new Uint8Array(data), view = new DataView(data), rest = bytes.subarray(1);
+    const bytes = new Uint8Array(data), view = new DataView(data), display = this.#display;
+    const text = () => decoder.decode(bytes.subarray(1));
     switch (String.fromCharCode(bytes[0])) {
-      case "F": this.#display.redraw(view.getUint16(1), view.getUint16(3), bytes.subarray(5)); return this.#count(bytes);
-      case "D": this.#display.update(rest); return this.#count(bytes);
-      case "W": return this.#begin(decoder.decode(rest) === "1");
-      case "T": return this.#display.title(decoder.decode(rest));
-      case "X": return this.#end(decoder.decode(rest));
+      case "F": display.redraw(view.getUint16(1), view.getUint16(3), bytes.subarray(5)); return this.#count(bytes);
+      case "D": display.update(bytes.subarray(1)); return this.#count(bytes);
+      case "H": display.scrolled(view.getUint32(1), view.getUint16(5), bytes.subarray(7)); return this.#count(bytes);
+      case "W": return this.#begin(text() === "1");
+      case "T": return display.title(text());
+      case "V": return display.viewers(view.getUint32(1), view.getUint32(5));
+      case "S": return this.#setStale(text() === "1");
+      case "X": return this.#end(text());
       default: return undefined;
     }
   }
@@ -70,7 +90,10 @@ export class Connection {
   /** Counts a message that the screen has read, and acknowledges it together with others. */
   #count(bytes) {
     this.#read += bytes.length;
-    if (this.#read - this.#acknowledged < ACKNOWLEDGE_AFTER) return;
+    if (this.#read - this.#acknowledged >= ACKNOWLEDGE_AFTER) this.#acknowledge();
+  }
+
+  #acknowledge() {
     const count = new Uint8Array(4);
     new DataView(count.buffer).setUint32(0, this.#read >>> 0);
     this.#send("a", count);
@@ -80,22 +103,29 @@ export class Connection {
   #begin(mayWrite) {
     this.#delay = FIRST_DELAY;
     this.#display.mayWrite(mayWrite);
-    this.#display.status("");
+    this.#setStale(false);
+  }
+
+  #setStale(isStale) {
+    if (isStale) this.#display.status("old", "The program is out of reach: this screen may be old.");
+    else this.#display.status("current", "");
   }
 
   #end(status) {
     this.#hasEnded = true;
-    this.#display.status(`The program has ended with status ${status}.`);
+    this.#display.status("ended", `The program has ended with status ${status}.`);
   }
 
   #closed(code, reason) {
+    this.#outbox.clear();
     if (this.#hasEnded) return;
     if (code === CUT_OFF) {
-      this.#display.status(`The server has ended the connection: ${reason}.`);
+      this.#display.status("old", `The server has ended the connection: ${reason}.`);
       return;
     }
-    this.#display.status("Not connected: this screen may be old. Connecting again…");
-    setTimeout(() => this.#connect(), this.#delay);
+    this.#display.status("old", "Not connected: this screen may be old. Connecting again…");
+    this.#isWaiting = true;
+    setTimeout(() => this.#isWaiting && this.#connect(), this.#delay);
     this.#delay = Math.min(2 * this.#delay, LONGEST_DELAY);
   }
 }

@@ -1,105 +1,130 @@
 // The page of a viewer. The library, compiled to WebAssembly, reads the updates, and its viewer draws the screen.
 
 import { load } from "./vt100.js";
-import { keyText, pasteText } from "./keys.js";
 import "./view/view.js";
 import { Connection } from "./connection.js";
+import { Keyboard } from "./keyboard.js";
+import { MouseInput } from "./mouse_input.js";
+import { SharedScreen } from "./screen.js";
+import { TouchScrolling } from "./touch.js";
 
-const view = document.querySelector("vt100-view"), status = document.getElementById("status");
-const PASTE_CHUNK = 4096;
+const find = (id) => document.getElementById(id);
+const view = document.querySelector("vt100-view");
 
-/** Shows the state of the connection. The screen is current if the text is empty. */
-function setStatus(text) {
-  status.textContent = text;
-  document.body.dataset.status = text === "" ? "current" : "other";
+/** Returns a number with a noun. */
+function counted(number, noun) {
+  return `${number} ${noun}${number === 1 ? "" : "s"}`;
 }
 
-/** Whether the browser handles a key: it copies a selection, or pastes. */
-function isForBrowser({ key, ctrlKey, shiftKey, altKey }) {
-  if (shiftKey && key === "Insert") return true;
-  if (!ctrlKey || altKey) return false;
-  const letter = key.toLowerCase();
-  return (letter === "c" && (shiftKey || view.selectedText !== "")) || (letter === "v" && shiftKey);
+/** Shows the state of the connection: see `Connection`. */
+function setStatus(kind, text) {
+  find("status").textContent = text;
+  document.body.dataset.status = kind;
 }
 
-class Screen {
-  #vt100;
-  #parser = null;
+/** What the connection reports: see `Connection`. */
+class Page {
+  #screen;
   #mayWrite = false;
 
-  constructor(vt100) {
-    this.#vt100 = vt100;
+  constructor(screen) {
+    this.#screen = screen;
+    view.addEventListener("scrollbackchange", ({ detail }) => this.#showScrollback(detail.scrollback));
+  }
+
+  /** The keyboard, which is there once the connection is. */
+  keyboard = null;
+
+  /** Returns the state of the screen, or null if this viewer may not type. */
+  get state() {
+    return this.#mayWrite ? this.#screen.state : null;
   }
 
   redraw(rows, cols, bytes) {
-    const before = this.#parser;
-    this.#parser = new this.#vt100.Parser(rows, cols);
-    this.#parser.process(bytes);
-    view.attach(this.#parser);
-    before?.free();
+    this.#screen.redraw(rows, cols, bytes);
   }
 
   update(bytes) {
-    this.#parser.process(bytes);
-    view.requestDraw();
+    this.#screen.update(bytes);
+  }
+
+  scrolled(number, count, bytes) {
+    this.#screen.scrolled(number, count, bytes);
   }
 
   title(text) {
     document.title = text || "Shared terminal";
   }
 
+  viewers(count, writers) {
+    find("viewers").textContent = `${counted(count, "viewer")}, ${counted(writers, "writer")}`;
+  }
+
+  /** Begins a connection. */
   mayWrite(isAllowed) {
+    this.#screen.forgetRows();
     this.#mayWrite = isAllowed;
     document.body.dataset.mayWrite = isAllowed;
+    this.#showScrollback(this.#screen.state?.scrollback ?? 0);
+    if (isAllowed && document.activeElement === view) this.keyboard.focus();
   }
 
-  status(text) {
-    setStatus(text);
+  status(kind, text) {
+    setStatus(kind, text);
   }
 
-  /** Returns the text of a key or of a paste for the program, or null if it is not for the program. */
-  typed(make) {
-    return this.#mayWrite && this.#parser !== null ? make(this.#parser.state) : null;
-  }
-
-  get contents() {
-    return this.#parser?.contents() ?? "";
+  #showScrollback(scrollback) {
+    find("scrollback").textContent = scrollback > 0 ? `${counted(scrollback, "row")} back` : "";
+    view.mouseReporting = this.#mayWrite && scrollback === 0;
   }
 }
 
-/** Sends keys and pasted text to the program. */
-function listen(screen, connection) {
-  document.addEventListener("keydown", (event) => {
-    const text = isForBrowser(event) ? null : screen.typed((state) => keyText(event, state));
-    if (text === null) return;
-    event.preventDefault();
-    view.clearSelection();
-    connection.type(text);
-  }, { capture: true });
-  document.addEventListener("paste", (event) => {
-    const text = screen.typed((state) => pasteText(event.clipboardData.getData("text/plain"), state));
-    if (text === null) return;
-    event.preventDefault();
-    for (let at = 0; at < text.length; at += PASTE_CHUNK) connection.type(text.slice(at, at + PASTE_CHUNK));
-  });
-  view.addEventListener("copy", () => setTimeout(() => view.clearSelection()));
+/** Sends what the reader types, and scrolls. */
+function listen(screen, page, connection) {
+  const state = () => page.state;
+  const send = (input) => {
+    screen.scrollToEnd();
+    connection.type(input);
+  };
+  let pointerType = "mouse";
+  view.addEventListener("pointerdown", (event) => ({ pointerType } = event), { capture: true });
+  const keyboard = new Keyboard({ view, area: find("input"), keys: find("keys"), state, send });
+  // A tap goes to a program that requests the mouse, without the touch keyboard: there is a button for it.
+  const focus = () => pointerType === "touch" || keyboard.focus();
+  const mouse = new MouseInput(view, { state, send: (bytes) => connection.type(bytes), focus });
+  view.addEventListener("focus", () => page.state !== null && keyboard.focus());
+  new TouchScrolling(view, (rows, point) => (mouse.isReporting ? mouse.sweep(point, rows) : view.scrollRows(-rows)));
+  page.keyboard = keyboard;
+}
+
+/** Leaves room for the touch keyboard, which in some browsers covers a part of the page. */
+function watchViewport() {
+  const viewport = globalThis.visualViewport;
+  const adapt = () => {
+    if (viewport.scale < 1.01) document.documentElement.style.setProperty("--height", `${viewport.height}px`);
+  };
+  viewport?.addEventListener("resize", adapt);
 }
 
 async function begin() {
-  const screen = new Screen(await load()), url = new URL("viewer", location.href.replace(/^http/, "ws"));
+  const screen = new SharedScreen(await load(), view), page = new Page(screen);
+  const url = new URL("viewer", location.href.replace(/^http/, "ws"));
   url.hash = "";
-  const connection = new Connection(url, location.hash.slice(1), screen);
-  listen(screen, connection);
   view.focus();
+  const connection = new Connection(url, location.hash.slice(1), page);
+  listen(screen, page, connection);
+  addEventListener("online", () => connection.wake());
+  document.addEventListener("visibilitychange", () => document.visibilityState === "visible" && connection.wake());
   globalThis.shared = screen;
 }
 
 // Another token: the page begins anew.
 addEventListener("hashchange", () => location.reload());
+watchViewport();
 
 try {
   await begin();
 } catch (error) {
-  setStatus(`Failed: ${error.message}`);
+  setStatus("old", `Failed: ${error.message}`);
 }
 document.body.dataset.isReady = "true";

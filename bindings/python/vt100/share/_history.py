@@ -1,0 +1,204 @@
+"""The rows that have scrolled off the screen of the program, for viewers that scroll back."""
+
+from __future__ import annotations
+
+import asyncio
+import re
+from typing import Callable, Dict, Iterator, List, NamedTuple, Optional
+
+from ..parser import Parser
+from . import _messages as messages
+from ._viewers import Viewer
+
+#: The largest number of rows that can be kept, which is also how many a page keeps.
+MAX_ROWS = 10000
+
+#: A message has no more rows after this number of bytes.
+CHUNK = 4096
+
+#: The shortest time between two messages with rows to a viewer, in seconds.
+GAP = 1 / 30
+
+#: How many viewers get rows before the event loop has its turn.
+SLICE = 500
+
+#: ED 3 and RIS, which erase the scrollback.
+_ERASURES = re.compile(rb"\x1b\[0*3J|\x1bc")
+_LONGEST_ERASURE = 16
+
+
+class Part(NamedTuple):
+    """A message, and the number of the row after those in it."""
+
+    message: bytes
+    end: int
+
+
+class History:
+    """The latest rows that have scrolled off a screen, at most `limit` of them.
+
+    Rows are numbered. A viewer that has the rows before a number gets the next ones by
+    `part(number)`. If rows in between are no longer kept, the message begins with a later row than
+    the viewer expects: it then discards its own rows, as if the scrollback had been erased.
+
+    The parser of the screen must have been made with `scrollback=limit`. `take` moves the rows from
+    its scrollback to this object. While the alternate screen is displayed, they stay where they
+    are.
+    """
+
+    def __init__(self, limit: int) -> None:
+        self.limit = limit
+        self._size = (0, 0)
+        self._rows: List[bytes] = []
+        self._first = 0  # the number of the first row that is kept
+        self._tail = b""
+        self._parts: Dict[Optional[int], Part] = {}
+
+    @property
+    def end(self) -> int:
+        """The number of the next row that scrolls off."""
+        return self._first + len(self._rows)
+
+    def note(self, data: bytes) -> None:
+        """Discards the rows if output that the parser has processed erases the scrollback."""
+        if not self.limit:
+            return
+        data = self._tail + data
+        end = 0
+        for found in _ERASURES.finditer(data):
+            end = found.end()
+        if end:
+            self._discard()
+        self._tail = data[max(end, len(data) - _LONGEST_ERASURE) :]
+
+    def take(self, parser: Parser) -> None:
+        """Takes the rows that are in the scrollback of the parser."""
+        if not self.limit:
+            return
+        count = parser.scrollback_len
+        # If its scrollback is full, the parser may have dropped rows that were never taken.
+        if count == self.limit or parser.size != self._size:
+            self._size = parser.size
+            self._discard()
+        if count == 0:
+            return
+        height = parser.lines
+        try:
+            for left in range(count, 0, -height):
+                parser.set_scrollback(left)
+                self._rows += _read(parser, min(left, height))
+        finally:
+            parser.set_scrollback(0)
+        parser.clear_scrollback()
+        excess = max(0, len(self._rows) - self.limit)
+        del self._rows[:excess]
+        self._first += excess
+        self._parts.clear()
+
+    def _discard(self) -> None:
+        # The number that is skipped tells viewers that rows are missing.
+        self._first = self.end + 1
+        self._rows.clear()
+        self._parts.clear()
+
+    def part(self, number: Optional[int]) -> Optional[Part]:
+        """Returns the next rows for a viewer that has the rows before `number`, or none if `number`
+        is None. Returns None if there is nothing to send."""
+        if number == self.end or (number is None and not self._rows):
+            return None
+        if number not in self._parts:
+            self._parts[number] = self._part(number)
+        return self._parts[number]
+
+    def _part(self, number: Optional[int]) -> Part:
+        begin = end = self._first if number is None else max(number, self._first)
+        length = 0
+        while end < self.end and length < CHUNK:
+            length += len(self._rows[end - self._first])
+            end += 1
+        rows = self._rows[begin - self._first : end - self._first]
+        return Part(messages.history(begin, rows), end)
+
+
+def _read(parser: Parser, count: int) -> List[bytes]:
+    """Returns the first displayed rows, each with what moves a terminal to the next row."""
+    rows = []
+    for row, text in enumerate(parser.rows_formatted()[:count]):
+        if "\x1b" in text:
+            text += "\x1b[m"
+        # The last column of a wrapped row is not blank, so a terminal wraps before the space.
+        rows.append(f"{text} \r\x1b[K" if parser.row_wrapped(row) else f"{text}\r\n")
+    return [row.encode() for row in rows]
+
+
+class HistorySender:
+    """Sends the rows of a history to viewers, at most one message every `GAP` seconds to each, so
+    that rows do not delay updates. A viewer is left out while it has no room for more, and unless
+    `is_current(viewer)` returns true, so that updates come first.
+
+    `finished` is called with each viewer that has got all rows.
+    """
+
+    def __init__(
+        self,
+        history: History,
+        is_current: Callable[[Viewer], bool],
+        finished: Callable[[Viewer], None],
+    ) -> None:
+        self._history, self._is_current, self._finished = history, is_current, finished
+        self._loop = asyncio.get_running_loop()
+        self._end = history.end
+        self._viewers: Dict[Viewer, None] = {}
+        self._waiting: Dict[Viewer, None] = {}
+        self._turn: Optional[Iterator[Viewer]] = None
+        self._timer: Optional[asyncio.TimerHandle] = None
+
+    def add(self, viewer: Viewer) -> None:
+        """Adds a viewer, which gets the rows that are kept."""
+        if self._history.limit:
+            self._viewers[viewer] = self._waiting[viewer] = None
+            self._schedule(0.0)
+
+    def remove(self, viewer: Viewer) -> None:
+        self._viewers.pop(viewer, None)
+        self._waiting.pop(viewer, None)
+
+    def has_all(self, viewer: Viewer) -> bool:
+        """Whether a viewer has got all rows that there are."""
+        return viewer not in self._waiting
+
+    def wake(self) -> None:
+        """Begins to send rows if there are new ones."""
+        if self._history.end != self._end:
+            self._end = self._history.end
+            self._waiting = dict(self._viewers)
+            self._schedule(0.0)
+
+    def _schedule(self, delay: float) -> None:
+        if self._turn is None and self._timer is None and self._waiting:
+            self._timer = self._loop.call_later(delay, self._begin)
+
+    def _begin(self) -> None:
+        self._timer = None
+        self._turn = iter(list(self._waiting))
+        self._resume()
+
+    def _resume(self) -> None:
+        """Serves the next viewers."""
+        assert self._turn is not None
+        for count, viewer in enumerate(self._turn, 1):
+            if viewer in self._waiting and viewer.has_room and self._is_current(viewer):
+                self._serve(viewer)
+            if count == SLICE:
+                self._loop.call_soon(self._resume)
+                return
+        self._turn = None
+        self._schedule(GAP)
+
+    def _serve(self, viewer: Viewer) -> None:
+        part = self._history.part(viewer.row)
+        if part is not None:
+            viewer.send_rows(part.message, part.end)
+        if part is None or part.end == self._history.end:
+            del self._waiting[viewer]
+            self._finished(viewer)
