@@ -104,6 +104,8 @@ class Terminal:
     def __init__(self):
         self.parser = self.title = self.status = self.may_write = self.rows = None
         self.read = self.redraws = self.updates = 0
+        self.counts = (0, 0)
+        self.is_stale = False
 
     def take(self, message):
         kind = message[:1]
@@ -119,6 +121,10 @@ class Terminal:
             self.rows.take(message)
         elif kind == b"T":
             self.title = message[1:].decode()
+        elif kind == b"V":
+            self.counts = struct.unpack(">II", message[1:])
+        elif kind == b"S":
+            self.is_stale = {b"S0": False, b"S1": True}[message]
         elif kind == b"X":
             self.status = int(message[1:])
         else:
@@ -197,7 +203,12 @@ class Client(Terminal):
     async def next(self):
         """Reads the next message, and acknowledges it."""
         while not self.messages:
-            await self._receive()
+            try:
+                await self._receive()
+            except Closed:
+                if not self.messages:
+                    raise
+                self.acknowledges = False  # the messages before the end are read, too
         before = self.read
         self.take(self.messages.pop(0))
         if self.acknowledges and self.read != before:
@@ -208,6 +219,11 @@ class Client(Terminal):
 
     async def until(self, text):
         while self.parser is None or text not in self.parser.contents():
+            await self.next()
+
+    async def until_true(self, condition):
+        """Reads messages until a condition holds."""
+        while not condition():
             await self.next()
 
     async def until_end(self):

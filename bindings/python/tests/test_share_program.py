@@ -2,6 +2,7 @@
 in which it is started."""
 
 import argparse
+import asyncio
 import json
 import os
 import re
@@ -12,7 +13,7 @@ import tempfile
 import time
 import unittest
 
-from sharing import needs_websockets
+from sharing import Client, needs_websockets
 from vt100.share.__main__ import _size as size_of
 from vt100.testing import Terminal
 
@@ -43,6 +44,14 @@ class Run(unittest.TestCase):
         self.addCleanup(process.communicate)
         self.addCleanup(process.kill)
         return process
+
+    def recorded(self, path):
+        """Returns the output that a recording has so far."""
+        if not os.path.exists(path):
+            return ""
+        with open(path, encoding="utf-8") as file:
+            lines = file.read().split("\n")[1:-1]
+        return "".join(json.loads(line)[2] for line in lines)
 
     def check(self, status, output, *arguments, **more):
         """Runs the program to its end, and compares its exit status and its last line."""
@@ -77,14 +86,6 @@ class Program(Run):
             kinds.append(found.groups())
         self.assertEqual([kind for kind, _ in kinds], ["watch", "type"])
         self.assertNotEqual(kinds[0][1], kinds[1][1])
-
-    def recorded(self, path):
-        """Returns the output that a recording has so far."""
-        if not os.path.exists(path):
-            return ""
-        with open(path, encoding="utf-8") as file:
-            lines = file.read().split("\n")[1:-1]
-        return "".join(json.loads(line)[2] for line in lines)
 
     def test_a_signal_ends_everything(self):
         script = "trap '' HUP TERM; echo $$; sleep 60 & echo $!; wait"
@@ -124,6 +125,46 @@ class Program(Run):
         full = "^vt100-share: the recording ends: /dev/full: No space left on device"
         output = full + "\\s+.*status 3\n$"
         self.check(3, output, "--record", "/dev/full", "--", "sh", "-c", "echo a; exit 3")
+
+    def test_a_disk_that_becomes_full_ends_the_recording_alone(self):
+        path = os.path.join(self.folder, "out.cast")
+        script = 'ulimit -f 8; exec "$@"'
+        command = ["--record", path, "--", "sh", "-c", "seq 2000; exit 3"]
+        process = subprocess.Popen(
+            ["sh", "-c", script, "sh", *SHARE, "--headless", *command],
+            stdout=subprocess.DEVNULL,
+            stderr=subprocess.PIPE,
+            universal_newlines=True,
+            env=self.environment,
+        )
+        _, errors = process.communicate(timeout=10)
+        self.assertEqual(process.returncode, 3, errors)
+        full = f"^vt100-share: the recording ends: {path}: File too large\n"
+        self.assertRegex(errors, full + ".* status 3\n$")
+        with open(path, encoding="utf-8") as file:
+            self.assertEqual(json.loads(file.readline())["version"], 2)
+
+    def test_a_recording_in_a_directory_that_is_missing(self):
+        output = "^vt100-share: cannot record: /no/such: No such file or directory\n$"
+        self.check(2, output, "--record", "/no/such", "--", "true")
+
+    def test_the_last_screen_lingers(self):
+        async def late(port, token):
+            viewer = await (await Client(port).open(token)).until_end()
+            Client.writers.clear()
+            viewer.close()
+            await asyncio.sleep(0)
+            return viewer
+
+        process = self.start("--linger", "60", "--", "sh", "-c", "echo word; exit 3")
+        port, token = re.search(r":([0-9]+)/#(\S+)", process.stdout.readline()).groups()
+        time.sleep(0.5)
+        viewer = asyncio.run(late(int(port), token))
+        self.assertEqual((viewer.parser.contents(), viewer.status), ("word", 3))
+        self.assertIsNone(process.poll())
+        process.send_signal(signal.SIGTERM)
+        process.communicate(timeout=10)
+        self.assertEqual(process.returncode, 3)
 
     def test_no_module(self):
         os.remove(os.path.join(self.folder, "vt100.wasm"))
@@ -173,6 +214,18 @@ class Local(Run):
             self.assertIn("watch: http://127.0.0.1:", before)
             self.assertFalse(terminal.screen.alternate_screen)
             self.assertFalse(terminal.screen.application_cursor)
+
+    @unittest.skipUnless(os.path.exists("/dev/full"), "there is no /dev/full")
+    def test_a_message_while_the_program_is_shown_comes_at_the_end(self):
+        words = ["--record", "/dev/full", "--", "sh", "-c", "echo word; read a"]
+        with self.start_here(*words) as terminal:
+            terminal.wait_for("Press Enter to start.")
+            terminal.press("enter")
+            terminal.wait_for("word")
+            self.assertNotIn("recording", terminal.screen.contents())
+            terminal.press("enter")
+            terminal.wait_end()
+            self.assertIn("the recording ends: /dev/full: No space", terminal.screen.contents())
 
     def test_the_terminal_is_restored_after_a_signal(self):
         script = '"$@"; echo status $?; stty -a'

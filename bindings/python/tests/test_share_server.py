@@ -216,6 +216,7 @@ class LeftOut(unittest.TestCase):
             async with Shared(ECHO) as shared:
                 writer, other = await shared.viewer(shared.tokens.write), await shared.viewer()
                 await asyncio.gather(writer.until(""), other.until(""))
+                await other.until_true(lambda: other.counts == (2, 1))
                 connections = {one._viewer.may_write: one for one in shared.server.connections}
                 connections[False].pause_writing()
                 for number in range(5):

@@ -1,30 +1,37 @@
-"""vt100-share [OPTIONS] -- COMMAND..: shows a running program to viewers in browsers."""
+"""vt100-share: shows a running program to viewers in browsers.
+
+    vt100-share [OPTIONS] -- COMMAND..       runs a program
+    vt100-share [OPTIONS] --play FILE.cast   plays a recording
+    vt100-share relay [OPTIONS] URL          shows what another server publishes
+"""
 
 from __future__ import annotations
 
 import argparse
-import asyncio
 import os
-import signal
+import shlex
 import sys
-from typing import List, Optional, Tuple
+from typing import Callable, List, Optional, Tuple
 
 from .. import _terminfo
 from ._history import MAX_ROWS as MAX_SCROLLBACK
-from ._local import LocalTerminal, is_available
-from ._loop import ignore_children, run, watch_children
+from ._local import is_available
+from ._loop import run
+from ._messages import MAX_COLS, MAX_ROWS
+from ._play import BadRecording, Cast, Playback
 from ._program import Program
+from ._publish import Publisher
 from ._recording import Recording
-from ._server import NoLibrary, Server
-from ._share import Share
+from ._redis import BadAddress, Redis, text_of
+from ._relay import Relay
+from ._run import Fault, Run, say
+from ._server import NoLibrary
+from ._share import Audience, Share
 from ._site import Missing, Site, page_files
-from ._viewers import Tokens
+from ._viewers import BadToken, Tokens, new_token, token_from
 
-MAX_ROWS, MAX_COLS = 500, 1000
-
-
-class Fault(Exception):
-    """A reason to end, for the user."""
+#: The environment variable with the token by which relays type.
+_RELAY_TOKEN = "VT100_SHARE_RELAY"
 
 
 def _size(text: str) -> Tuple[int, int]:
@@ -47,24 +54,66 @@ def _arguments(given: Optional[List[str]]) -> argparse.Namespace:
         prog="vt100-share", description="Shows a running program to viewers in browsers."
     )
     add = parser.add_argument
-    add("--host", default="127.0.0.1", help="the address to listen on (default: 127.0.0.1)")
-    add("--port", type=int, default=0, help="the port to listen on (default: any)")
-    add("--public", action="append", default=[], metavar="URL",
-        help="an address by which a reverse proxy serves this server; may be repeated")
+    _add_server_options(parser)
     add("--write", action="store_true", help="print a second address, whose readers may type")
     add("--size", type=_size, metavar="ROWSxCOLS",
         help="the size of the program's terminal (default: that of this terminal)")
     add("--scrollback", type=_row_count, default=0, metavar="N",
         help="let viewers scroll back by N rows (default: 0)")
     add("--headless", action="store_true", help="do not show the program in this terminal")
+    add("--record", metavar="FILE.cast", help="record the output, for asciinema and other players")
+    add("--play", metavar="FILE.cast", help="play a recording instead of running a program")
+    add("--speed", type=_speed, default=1.0, metavar="N", help="play N times as fast")
+    add("--publish", metavar="URL", help="also publish to relays, through the Redis server at URL")
+    _add_stream(parser)
+    add("command", nargs="*", metavar="COMMAND", help="the program and its arguments")
+    options = parser.parse_args(given)
+    if (options.play is None) == (not options.command):
+        parser.error("either COMMAND or --play FILE.cast is required")
+    if options.play is not None and (options.write or options.size or options.record):
+        parser.error("--write, --size and --record require COMMAND")
+    return options
+
+
+def _relay_arguments(given: List[str]) -> argparse.Namespace:
+    parser = argparse.ArgumentParser(
+        prog="vt100-share relay", description="Shows what another server publishes to viewers."
+    )
+    _add_server_options(parser)
+    parser.add_argument("--write", action="store_true",
+        help=f"print a second address, whose readers may type; ${_RELAY_TOKEN} is the token that "
+        "the server accepts")
+    _add_stream(parser)
+    parser.add_argument("url", metavar="URL", help="the address of the Redis server")
+    return parser.parse_args(given)
+
+
+def _add_server_options(parser: argparse.ArgumentParser) -> None:
+    add = parser.add_argument
+    add("--host", default="127.0.0.1", help="the address to listen on (default: 127.0.0.1)")
+    add("--port", type=int, default=0, help="the port to listen on (default: any)")
+    add("--public", action="append", default=[], metavar="URL",
+        help="an address by which a reverse proxy serves this server; may be repeated")
+    add("--viewers", type=int, default=1000, metavar="N", help="allow N viewers (default: 1000)")
     add("--linger", type=float, default=0.0, metavar="SECONDS",
         help="how long to show the last screen after the program has ended")
-    add("--viewers", type=int, default=1000, metavar="N", help="allow N viewers (default: 1000)")
-    add("--record", metavar="FILE.cast", help="record the output, for asciinema and other players")
     add("--page", metavar="FOLDER", default=os.environ.get("VT100_PAGE"),
         help="the directory of vt100.wasm and other files of the page (default: $VT100_PAGE)")
-    add("command", nargs="+", metavar="COMMAND", help="the program and its arguments")
-    return parser.parse_args(given)
+
+
+def _add_stream(parser: argparse.ArgumentParser) -> None:
+    parser.add_argument("--stream", default="vt100-share", metavar="NAME",
+        help="the name of the stream in Redis (default: vt100-share)")
+
+
+def _speed(text: str) -> float:
+    try:
+        number = float(text)
+    except ValueError:
+        number = 0.0
+    if not 0.001 <= number <= 1000:
+        raise argparse.ArgumentTypeError("a speed is a number from 0.001 to 1000")
+    return number
 
 
 def _own_size() -> Tuple[int, int]:
@@ -79,130 +128,99 @@ def _own_size() -> Tuple[int, int]:
     return 24, 80
 
 
-def _say(text: str) -> None:
-    print(f"vt100-share: {text}", file=sys.stderr, flush=True)
-
-
-def _print_addresses(options: argparse.Namespace, port: int, tokens: Tokens) -> None:
-    host = f"[{options.host}]" if ":" in options.host else options.host
-    for place in options.public or [f"http://{host}:{port}/"]:
-        print(f"watch: {place}#{tokens.read}", flush=True)
-        if tokens.write is not None:
-            print(f"type:  {place}#{tokens.write}", flush=True)
-
-
-class _Run:
-    """One run of the program, from the open port to the exit status."""
-
-    def __init__(self, options: argparse.Namespace) -> None:
-        self._options = options
-        self._stop = asyncio.Event()
-        self._signal: Optional[int] = None
-        self._loop = asyncio.get_running_loop()
-        for number in (signal.SIGTERM, signal.SIGINT, signal.SIGHUP):
-            self._loop.add_signal_handler(number, self._stopped_by, number)
-
-    def _stopped_by(self, number: int) -> None:
-        self._signal = number
-        self._stop.set()
-
-    async def run(self, site: Site, size: Tuple[int, int]) -> int:
-        """Returns the exit status."""
-        is_shown = not self._options.headless and is_available()
-        tokens = Tokens(self._options.write)
-        server = Server(site, tokens, self._options.viewers)
-        try:
-            port = await server.start(self._options.host, self._options.port)
-        except (OSError, OverflowError) as error:
-            place = f"{self._options.host} port {self._options.port}"
-            raise Fault(f"cannot listen on {place}: {error}") from None
-        try:
-            _print_addresses(self._options, port, tokens)
-            if is_shown and not await self._confirm():
-                return 128 + (self._signal or 0)
-            return await self._share(server, size, is_shown)
-        finally:
-            await server.close()
-
-    async def _confirm(self) -> bool:
-        """Waits for Enter, so that the addresses can be copied. Returns False after a signal."""
-        print("Press Enter to start.", flush=True)
-        pressed = asyncio.Event()
-        self._loop.add_reader(0, pressed.set)
-        await self._either(pressed)
-        self._loop.remove_reader(0)
-        if self._signal is None:
-            os.read(0, 4096)
-        return self._signal is None
-
-    async def _share(self, server: Server, size: Tuple[int, int], is_shown: bool) -> int:
-        program = _start(self._options.command, size)
-        recording = local = None
-        try:
-            recording = self._recording(size)
-            share = Share(program, *size, recording, self._options.scrollback)
-            watch_children(share.check_status)
-            server.share = share
-            if is_shown:
-                local = LocalTerminal(share.cohort, share.type)
-                share.listen(local.show)
-            await self._either(share.ended)
-            if self._signal is None and self._options.linger > 0:
-                await self._either(asyncio.Event(), self._options.linger)
-        finally:
-            if local is not None:
-                local.close()
-            ignore_children()
-            server.share = None
-            _forget(self._loop, program)
-            program.close()
-            if recording is not None:
-                recording.close()
-        if share.status is None:
-            return 128 + (self._signal or 0)
-        _say(f"the program has ended with status {share.status}")
-        return share.status
-
-    def _recording(self, size: Tuple[int, int]) -> Optional[Recording]:
-        path = self._options.record
-        try:
-            return Recording(path, *size, _terminfo.entry()[0]) if path else None
-        except OSError as error:
-            raise Fault(f"cannot record: {path}: {error.strerror}") from None
-
-    async def _either(self, event: asyncio.Event, seconds: Optional[float] = None) -> None:
-        """Waits for an event, for a signal, or for some seconds."""
-        waits = [self._loop.create_task(one.wait()) for one in (event, self._stop)]
-        await asyncio.wait(waits, timeout=seconds, return_when=asyncio.FIRST_COMPLETED)
-        for task in waits:
-            task.cancel()
-
-
-def _start(command: List[str], size: Tuple[int, int]) -> Program:
-    try:
-        return Program(command, *size)
-    except OSError as error:
-        raise Fault(f"{command[0]}: {error.strerror}") from None
-
-
-def _forget(loop: asyncio.AbstractEventLoop, program: Program) -> None:
-    if program.file >= 0:
-        loop.remove_reader(program.file)
-        loop.remove_writer(program.file)
+def _tokens(can_write: bool) -> Tokens:
+    return Tokens(can_write, token_from("VT100_SHARE_READ"), token_from("VT100_SHARE_WRITE"))
 
 
 async def _run(options: argparse.Namespace) -> int:
+    """Shares a program or a recording."""
     site = Site(page_files(options.page), options.host, options.public)
-    return await _Run(options).run(site, options.size or _own_size())
+    one = Run(options, not options.headless and is_available())
+    cast = _cast(options.play) if options.play is not None else None
+    if options.publish is not None:
+        await _prepare_publishing(options, one)
+    size = options.size or _own_size()
+
+    def begin() -> Audience:
+        if cast is not None:
+            return Playback(cast, options.speed, one.report, options.scrollback)
+        return _start(options, size, one.report)
+
+    return await one.run(site, _tokens(options.write), begin)
+
+
+def _cast(path: str) -> Cast:
+    try:
+        return Cast(path)
+    except OSError as error:
+        raise Fault(f"cannot play: {path}: {error.strerror}") from None
+    except BadRecording as error:
+        raise Fault(f"cannot play: {error}") from None
+
+
+def _start(
+    options: argparse.Namespace, size: Tuple[int, int], report: Callable[[str], None]
+) -> Share:
+    """Starts the program and the recording."""
+    command, path = options.command, options.record
+    try:
+        program = Program(command, *size)
+    except OSError as error:
+        raise Fault(f"{command[0]}: {error.strerror}") from None
+    try:
+        recording = Recording(path, *size, _terminfo.entry()[0], report) if path else None
+    except OSError as error:
+        program.close()
+        raise Fault(f"cannot record: {path}: {error.strerror}") from None
+    return Share(program, *size, recording, options.scrollback)
+
+
+async def _redis(url: str, name: str) -> Redis:
+    """Returns the Redis server, which has been reached."""
+    redis = Redis(url)
+    try:
+        await redis.check(name)
+    except redis.errors as error:
+        raise Fault(text_of(redis, error)) from None
+    finally:
+        await redis.close()
+    return redis
+
+
+async def _prepare_publishing(options: argparse.Namespace, one: Run) -> None:
+    redis = await _redis(options.publish, options.stream)
+    token = (token_from(_RELAY_TOKEN) or new_token()) if options.write else None
+    relay = "vt100-share relay"
+    if token is not None:
+        relay = f"{_RELAY_TOKEN}={token} {relay} --write"
+    print(f"relay: {relay} --stream {shlex.quote(options.stream)} {redis.label}", flush=True)
+    one.publish = lambda share: Publisher(
+        share, redis, options.stream, one.report, token, options.linger
+    )
+
+
+async def _run_relay(options: argparse.Namespace) -> int:
+    """Shares what another server publishes."""
+    site = Site(page_files(options.page), options.host, options.public)
+    token = token_from(_RELAY_TOKEN) if options.write else None
+    if options.write and token is None:
+        raise Fault(f"--write requires ${_RELAY_TOKEN}, the token that the server has printed")
+    one = Run(options, is_shown=False)
+    redis = await _redis(options.url, options.stream)
+    return await one.run(
+        site, _tokens(options.write), lambda: Relay(redis, options.stream, one.report, token)
+    )
 
 
 def main(given: Optional[List[str]] = None) -> int:
     """Runs the program. Returns the exit status: that of COMMAND, or 2 for a fault."""
-    options = _arguments(given)
+    words = sys.argv[1:] if given is None else given
+    is_relay = words[:1] == ["relay"]
+    options = _relay_arguments(words[1:]) if is_relay else _arguments(words)
     try:
-        return run(_run(options))
-    except (Fault, Missing, NoLibrary) as fault:
-        _say(str(fault))
+        return run(_run_relay(options) if is_relay else _run(options))
+    except (BadAddress, BadToken, Fault, Missing, NoLibrary) as fault:
+        say(str(fault))
         return 2
 
 

@@ -36,10 +36,14 @@ class Cohort:
     def __init__(
         self, rows: int, cols: int, callbacks: Optional[Callbacks] = None, scrollback: int = 0
     ) -> None:
-        self.parser = Parser(rows, cols, scrollback, callbacks)
         #: The rows that had scrolled off when the version began.
         self.history = History(scrollback)
         self.version = 0
+        self._callbacks = callbacks
+        self._begin(rows, cols)
+
+    def _begin(self, rows: int, cols: int) -> None:
+        self.parser = Parser(rows, cols, self.history.limit, self._callbacks)
         self.has_changed = False
         self._mirror = Mirror(rows, cols)
         self._viewer = self._mirror.join()
@@ -50,6 +54,23 @@ class Cohort:
         self._updates: Dict[int, bytes] = {}  # by the version from which they lead to the next one
         self._redraw: Optional[bytes] = None
         self._made: Dict[Optional[int], bytes] = {}
+
+    def restart(self, rows: int, cols: int, data: bytes) -> None:
+        """Replaces the terminal by a new one that reads `data`, and makes its screen the version.
+        No update leads there: every viewer gets a redraw."""
+        self._begin(rows, cols)
+        self.version += 1
+        self.process(data)
+        self.advance()
+
+    def resize(self, rows: int, cols: int) -> None:
+        """Resizes the terminal, and makes its screen the version. Every viewer gets a redraw."""
+        self._mirror.process(self._pending)
+        self._pending.clear()
+        self._mirror.set_size(rows, cols)
+        self.parser.set_size(rows, cols)
+        self.has_changed = True
+        self.advance()
 
     def process(self, data: bytes) -> None:
         """Parses output of the program, which the next version will contain."""

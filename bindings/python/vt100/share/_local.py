@@ -52,7 +52,7 @@ class LocalTerminal:
         if shown is None:
             return _ENTER + TERMINAL_SETUP + screen.state_formatted()
         modes = screen.input_mode_diff(shown)
-        if self._must_redraw or not shown.is_steady():
+        if self._must_redraw or not shown.is_steady() or shown.size != screen.size:
             self._must_redraw = False
             return TERMINAL_SETUP + screen.contents_formatted() + modes
         return screen.contents_diff(shown) + modes

@@ -12,6 +12,9 @@ From the server to a viewer:
                              off it, and then those above its cursor
     W 0 or 1                 whether the viewer may type; the first message
     T text                   the title of the window
+    V viewers(4) writers(4)  how many viewers there are, and how many of them may type
+    S 0 or 1                 whether the screen may be older than the program's: what it comes from
+                             is out of reach
     X digits                 the program has ended with this status
 
 From a viewer to the server:
@@ -34,8 +37,12 @@ MAX_RECEIVED = 16384
 #: The longest title that is sent, in bytes.
 MAX_TITLE = 512
 
+#: The largest size of a terminal.
+MAX_ROWS, MAX_COLS = 500, 1000
+
 _SIZE = struct.Struct(">HH")
 _COUNT = struct.Struct(">I")
+_COUNTS = struct.Struct(">II")
 _ROWS = struct.Struct(">IH")
 COUNT_MODULUS = 1 << 32
 
@@ -64,6 +71,14 @@ def title(text: bytes) -> bytes:
     """Returns the message for a title, without controls and malformed UTF-8."""
     printable = "".join(filter(str.isprintable, text[:MAX_TITLE].decode(errors="replace")))
     return b"T" + printable.encode()
+
+
+def counts(viewers: int, writers: int) -> bytes:
+    return b"V" + _COUNTS.pack(viewers, writers)
+
+
+def stale(is_stale: bool) -> bytes:
+    return b"S1" if is_stale else b"S0"
 
 
 def ended(status: int) -> bytes:

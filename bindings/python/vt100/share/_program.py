@@ -17,8 +17,14 @@ from .. import _session, _terminfo
 #: How long `Program.close` waits for the program to end, in seconds.
 _GRACE = 1.0
 
-#: The names that describe another terminal.
-_DROPPED = ("LINES", "COLUMNS")
+#: The names that describe another terminal, and those of tokens.
+_DROPPED = (
+    "LINES",
+    "COLUMNS",
+    "VT100_SHARE_READ",
+    "VT100_SHARE_WRITE",
+    "VT100_SHARE_RELAY",
+)
 
 
 class Program:

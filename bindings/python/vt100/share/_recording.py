@@ -4,16 +4,18 @@ from __future__ import annotations
 
 import codecs
 import json
-import sys
 import time
+from typing import Callable
 
 
 class Recording:
-    """Writes the output of the program to a file. If that fails, a message says so, and the
-    recording ends there."""
+    """Writes the output of the program to a file. If that fails, `report` is called with a message,
+    and the recording ends there."""
 
-    def __init__(self, path: str, rows: int, cols: int, term: str) -> None:
-        self._path = path
+    def __init__(
+        self, path: str, rows: int, cols: int, term: str, report: Callable[[str], None]
+    ) -> None:
+        self._path, self._report = path, report
         self._start = time.monotonic()
         self._decoder = codecs.getincrementaldecoder("utf-8")("replace")
         self._file = open(path, "w", encoding="utf-8", buffering=1)
@@ -43,7 +45,7 @@ class Recording:
             self._fail(error)
 
     def _fail(self, error: OSError) -> None:
-        print(f"vt100-share: the recording ends: {self._path}: {error.strerror}\r", file=sys.stderr)
+        self._report(f"the recording ends: {self._path}: {error.strerror}")
         try:
             self._file.close()
         except OSError:

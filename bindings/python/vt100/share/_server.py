@@ -8,7 +8,7 @@ import time
 from typing import Any, Callable, List, Optional, Set, cast
 
 from . import _messages as messages
-from ._share import Share
+from ._share import Audience
 from ._site import Response, Site
 from ._sockets import NoLibrary as NoLibrary
 from ._sockets import WebSockets
@@ -38,7 +38,7 @@ class Server:
     """The connections. `start` begins to listen. `share` is what viewers see: without it, they are
     told to come back."""
 
-    share: Optional[Share] = None
+    share: Optional[Audience] = None
 
     def __init__(self, site: Site, tokens: Tokens, max_viewers: int) -> None:
         self.site, self.tokens = site, tokens
@@ -119,7 +119,7 @@ class Connection(asyncio.Protocol):
         self._is_compressed = False
         self._unread = 0  # the number of bytes of an incomplete frame
         self._parts: Optional[List[bytes]] = None  # those of an incomplete message
-        self._share: Optional[Share] = None
+        self._share: Optional[Audience] = None
         self._viewer: Optional[Viewer] = None
         self._heard = time.monotonic()  # when a viewer has last sent something
         self._is_pinged = False

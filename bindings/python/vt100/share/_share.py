@@ -1,4 +1,4 @@
-"""What is shared: the program, its screen, and when viewers get updates."""
+"""What is shared: a screen, where it comes from, and when viewers get updates."""
 
 from __future__ import annotations
 
@@ -20,6 +20,9 @@ GAP = 1 / 30
 #: How many viewers get their update before the event loop has its turn.
 SLICE = 500
 
+#: The shortest time between two messages with the number of viewers, in seconds.
+COUNT_GAP = 1.0
+
 #: The number of bytes of input that may wait for the program to read them.
 MAX_UNSENT = 1 << 18
 
@@ -35,57 +38,55 @@ _MAX_LAST_READS = 256
 _FAREWELL, _LONGEST_FAREWELL = 2.0, 15.0
 
 
-class _Queries(Replies):
-    """Replies to the program, and notes the title of the window."""
+class Queries(Replies):
+    """Replies to the program, and passes on the title of the window."""
 
-    def __init__(self, send: Callable[[bytes], object]) -> None:
+    def __init__(
+        self, send: Callable[[bytes], object], set_title: Callable[[bytes], object]
+    ) -> None:
         super().__init__(send)
-        self.title = b""
-        self.title_number = 0
+        self._set_title = set_title
 
     def set_window_title(self, screen: Screen, title: bytes) -> None:
-        if title[: messages.MAX_TITLE] != self.title:
-            self.title = title[: messages.MAX_TITLE]
-            self.title_number += 1
+        self._set_title(title)
 
     def copy_to_clipboard(self, screen: Screen, kind: bytes, data: bytes) -> None:
         """Ignores the data: a program could store any amount, under any number of names."""
 
 
-class Share:
-    """A program and its viewers.
+class Audience:
+    """A screen and its viewers. Derived classes say where the screen comes from.
 
-    Output is parsed at once. It becomes visible in rounds: the first one begins at once, and the
-    next one no sooner than `GAP` seconds later. A round makes the present screen a version, and
-    sends each viewer what leads to it, except to those that have no room for more: they get it when
-    they have.
+    The screen becomes visible in rounds: the first one begins at once, and the next one no sooner
+    than `GAP` seconds later. A round makes the present screen a version, and sends each viewer what
+    leads to it, except to those that have no room for more: they get it when they have.
     """
 
-    def __init__(
-        self,
-        program: Program,
-        rows: int,
-        cols: int,
-        recording: Optional[Recording] = None,
-        scrollback: int = 0,
-    ) -> None:
+    #: What the screen comes from, in messages to the user.
+    what = "the program"
+
+    def __init__(self, cohort: Cohort) -> None:
         self.ended = asyncio.Event()
         self.status: Optional[int] = None
+        self.cohort = cohort
+        self.title = b""
+        self.title_number = 0
+        #: Whether the screen may be older than that of the program.
+        self.is_stale = False
+        self._counts = (0, 0)
+        self._writer_count = 0
+        self._is_counting = False
+        self._counted = 0.0
         self._loop = asyncio.get_running_loop()
-        self._program = program
-        self._queries = _Queries(self.type)
-        self.cohort = Cohort(rows, cols, self._queries, scrollback)
-        self._recording = recording
         self._viewers: Dict[Viewer, None] = {}
         self._typists: Dict[Viewer, None] = {}
         self._listeners: List[Callable[[], None]] = []
         self._last = 0.0
-        self._is_scheduled = False
+        self._is_scheduled = self._must_repeat = False
         self._is_final = False
         self._round: Optional[Iterator[Viewer]] = None
-        self._rows = HistorySender(self.cohort.history, self._is_current, self._rows_sent)
+        self._rows = HistorySender(cohort.history, self._is_current, self._rows_sent)
         self.listen(self._rows.wake)
-        self._loop.add_reader(program.file, self._read)
 
     # ---- viewers
 
@@ -100,14 +101,19 @@ class Share:
     def add(self, viewer: Viewer) -> None:
         """Adds a viewer, which gets the present version."""
         self._viewers[viewer] = None
+        self._writer_count += viewer.may_write
+        self._count()
         viewer.send(messages.may_write(viewer.may_write))
         self.offer(viewer)
         self._rows.add(viewer)
 
     def remove(self, viewer: Viewer) -> None:
-        self._viewers.pop(viewer, None)
-        self._typists.pop(viewer, None)
-        self._rows.remove(viewer)
+        if viewer in self._viewers:
+            del self._viewers[viewer]
+            self._typists.pop(viewer, None)
+            self._writer_count -= viewer.may_write
+            self._rows.remove(viewer)
+            self._count()
 
     def _is_current(self, viewer: Viewer) -> bool:
         return viewer.version == self.cohort.version
@@ -123,15 +129,27 @@ class Share:
             viewer.is_behind = True
             return
         viewer.is_behind = False
+        # A stale mark comes before the screen that is stale, and its end after one that is not.
+        if self.is_stale and not viewer.is_stale:
+            self._send_stale(viewer)
         if viewer.version != self.cohort.version:
             viewer.send_screen(self.cohort.message(viewer.version), self.cohort.version)
-        if viewer.title_number != self._queries.title_number:
-            viewer.title_number = self._queries.title_number
-            viewer.send(messages.title(self._queries.title))
+        if viewer.title_number != self.title_number:
+            viewer.title_number = self.title_number
+            viewer.send(messages.title(self.title))
+        if viewer.counts != self._counts:
+            viewer.counts = self._counts
+            viewer.send(messages.counts(*self._counts))
+        if viewer.is_stale and not self.is_stale:
+            self._send_stale(viewer)
         if self._is_final and not viewer.has_end and self.status is not None:
             if self._rows.has_all(viewer) or is_forced:
                 viewer.has_end = True
                 viewer.send(messages.ended(self.status))
+
+    def _send_stale(self, viewer: Viewer) -> None:
+        viewer.is_stale = self.is_stale
+        viewer.send(messages.stale(self.is_stale))
 
     def receive(self, viewer: Viewer, message: bytes) -> None:
         """Takes a message of a viewer. Raises `Nonsense` if the viewer must be cut off."""
@@ -142,7 +160,128 @@ class Share:
         elif viewer.is_behind:
             self.offer(viewer)
 
-    # ---- the program
+    def type(self, data: bytes) -> None:
+        """Takes what a viewer has typed. Drops it unless a derived class has a use for it."""
+
+    def set_title(self, title: bytes) -> None:
+        """Sends a title to viewers with the next round."""
+        if title[: messages.MAX_TITLE] != self.title:
+            self.title = title[: messages.MAX_TITLE]
+            self.title_number += 1
+
+    def _parse(self, data: bytes) -> None:
+        """Parses output, and cancels a command that is too long."""
+        self.cohort.process(data)
+        if self.cohort.parser.pending_len > MAX_COMMAND:
+            self.cohort.process(_CANCEL)
+
+    def _count(self) -> None:
+        """Has the number of viewers sent, but no sooner than `COUNT_GAP` after the last time."""
+        if not self._is_counting:
+            self._is_counting = True
+            wait = self._counted + COUNT_GAP - self._loop.time()
+            self._loop.call_later(max(0.0, wait), self._send_counts)
+
+    def _send_counts(self) -> None:
+        self._is_counting = False
+        counts = len(self._viewers), self._writer_count
+        if counts != self._counts:
+            self._counts, self._counted = counts, self._loop.time()
+            self._schedule()
+
+    # ---- the end
+
+    @property
+    def is_final(self) -> bool:
+        """Whether the present version is the last one."""
+        return self._is_final
+
+    def close(self) -> None:
+        """Frees what the screen comes from. Called at the end, or after a signal."""
+
+    async def wait_closed(self) -> None:
+        """Waits until all is freed."""
+
+    def _finish(self, status: int) -> None:
+        """Has viewers get the last version and the status, and then ends."""
+        if self.status is None:
+            self.status = status
+            self._schedule()
+            self._loop.create_task(self._farewell())
+
+    async def _farewell(self) -> None:
+        """Waits until all viewers have what there is to send, or for some seconds."""
+        last, end, before = self._loop.time() + _LONGEST_FAREWELL, 0.0, -1
+        while not self._is_final or self._round is not None or self._has_waiting_viewer():
+            read = sum(viewer.read_len for viewer in self._viewers)
+            if read != before:
+                end, before = self._loop.time() + _FAREWELL, read
+            if self._loop.time() >= min(end, last):
+                break
+            await asyncio.sleep(0.03)
+        for viewer in list(self._viewers):
+            if not viewer.has_end:
+                self.offer(viewer, is_forced=True)
+        self.ended.set()
+
+    def _has_waiting_viewer(self) -> bool:
+        return any(not viewer.has_end or not viewer.is_drained for viewer in self._viewers)
+
+    # ---- rounds
+
+    def _schedule(self) -> None:
+        """Has a round begin as soon as one may."""
+        if self._round is not None:
+            self._must_repeat = True
+        elif not self._is_scheduled:
+            self._is_scheduled = True
+            self._loop.call_later(max(0.0, self._last + GAP - self._loop.time()), self._begin)
+
+    def _begin(self) -> None:
+        self._is_scheduled = self._must_repeat = False
+        self._last = self._loop.time()
+        self._is_final = self.status is not None
+        self._advance()
+        for listener in self._listeners:
+            listener()
+        # Who types is served first.
+        self._round = iter([*self._typists, *(v for v in self._viewers if v not in self._typists)])
+        self._resume()
+
+    def _advance(self) -> None:
+        """Makes the present screen the version."""
+        self.cohort.advance()
+
+    def _resume(self) -> None:
+        """Serves the next viewers of the round."""
+        assert self._round is not None
+        for count, viewer in enumerate(self._round, 1):
+            if viewer in self._viewers:
+                self.offer(viewer)
+            if count == SLICE:
+                self._loop.call_soon(self._resume)
+                return
+        self._round = None
+        if self._must_repeat:
+            self._schedule()
+
+
+class Share(Audience):
+    """A program and its viewers. Output is parsed at once."""
+
+    def __init__(
+        self,
+        program: Program,
+        rows: int,
+        cols: int,
+        recording: Optional[Recording] = None,
+        scrollback: int = 0,
+    ) -> None:
+        queries = Queries(self.type, self.set_title)
+        super().__init__(Cohort(rows, cols, queries, scrollback))
+        self._program = program
+        self._recording = recording
+        self._loop.add_reader(program.file, self._read)
 
     def type(self, data: bytes) -> None:
         """Sends input to the program. Drops it if the program has not read much of the earlier
@@ -170,9 +309,7 @@ class Share:
         self._process(data)
 
     def _process(self, data: bytes) -> None:
-        self.cohort.process(data)
-        if self.cohort.parser.pending_len > MAX_COMMAND:
-            self.cohort.process(_CANCEL)
+        self._parse(data)
         if self._recording is not None:
             self._recording.output(data)
         if self.cohort.is_full:
@@ -198,61 +335,24 @@ class Share:
         self._finish(self._program.status)
 
     def _finish(self, status: int) -> None:
-        if self.status is None:
-            self.status = status
+        self._forget()
+        super()._finish(status)
+
+    def _advance(self) -> None:
+        was_full = self.cohort.is_full
+        super()._advance()
+        if was_full and self.status is None and self._program.file >= 0:
+            self._loop.add_reader(self._program.file, self._read)
+
+    def _forget(self) -> None:
+        """Reads and writes no more."""
+        if self._program.file >= 0:
             self._loop.remove_reader(self._program.file)
             self._loop.remove_writer(self._program.file)
-            self._schedule()
-            self._loop.create_task(self._farewell())
 
-    async def _farewell(self) -> None:
-        """Waits until all viewers have what there is to send, or for some seconds."""
-        last, end, before = self._loop.time() + _LONGEST_FAREWELL, 0.0, -1
-        while not self._is_final or self._round is not None or self._has_waiting_viewer():
-            read = sum(viewer.read_len for viewer in self._viewers)
-            if read != before:
-                end, before = self._loop.time() + _FAREWELL, read
-            if self._loop.time() >= min(end, last):
-                break
-            await asyncio.sleep(0.03)
-        for viewer in list(self._viewers):
-            if not viewer.has_end:
-                self.offer(viewer, is_forced=True)
-        self.ended.set()
-
-    def _has_waiting_viewer(self) -> bool:
-        return any(not viewer.has_end or not viewer.is_drained for viewer in self._viewers)
-
-    # ---- rounds
-
-    def _schedule(self) -> None:
-        if self._round is None and not self._is_scheduled:
-            self._is_scheduled = True
-            self._loop.call_later(max(0.0, self._last + GAP - self._loop.time()), self._begin)
-
-    def _begin(self) -> None:
-        self._is_scheduled = False
-        self._last = self._loop.time()
-        self._is_final = self.status is not None
-        was_full = self.cohort.is_full
-        self.cohort.advance()
-        if was_full and self.status is None:
-            self._loop.add_reader(self._program.file, self._read)
-        for listener in self._listeners:
-            listener()
-        # Who types is served first.
-        self._round = iter([*self._typists, *(v for v in self._viewers if v not in self._typists)])
-        self._resume()
-
-    def _resume(self) -> None:
-        """Serves the next viewers of the round."""
-        assert self._round is not None
-        for count, viewer in enumerate(self._round, 1):
-            if viewer in self._viewers:
-                self.offer(viewer)
-            if count == SLICE:
-                self._loop.call_soon(self._resume)
-                return
-        self._round = None
-        if self.cohort.has_changed or self._is_final != (self.status is not None):
-            self._schedule()
+    def close(self) -> None:
+        """Ends the program and the recording."""
+        self._forget()
+        self._program.close()
+        if self._recording is not None:
+            self._recording.close()

@@ -3,6 +3,8 @@
 from __future__ import annotations
 
 import hmac
+import os
+import re
 import secrets
 import time
 from typing import Callable, Optional
@@ -18,17 +20,46 @@ MESSAGE_RATE, MESSAGE_BURST = 200.0, 600.0
 BYTE_RATE, BYTE_BURST = 65536.0, 262144.0
 
 
-class Tokens:
-    """The tokens that allow to read and, unless there is none, to write."""
+#: The fewest characters of a token that is given.
+_MIN_TOKEN = 16
 
-    def __init__(self, can_write: bool) -> None:
-        self.read = secrets.token_urlsafe(18)
-        self.write = secrets.token_urlsafe(18) if can_write else None
+_TOKEN = re.compile(r"[\w-]*", re.ASCII)
+
+
+class BadToken(Exception):
+    """Raised for a token that can be guessed or cannot be part of an address."""
+
+
+def new_token() -> str:
+    return secrets.token_urlsafe(18)
+
+
+def token_from(name: str) -> Optional[str]:
+    """Returns the token in an environment variable, or None if there is none."""
+    token = os.environ.get(name)
+    if token and (len(token) < _MIN_TOKEN or _TOKEN.fullmatch(token) is None):
+        raise BadToken(
+            f"${name} must have at least {_MIN_TOKEN} characters: letters, digits, '-' and '_'"
+        )
+    return token or None
+
+
+class Tokens:
+    """The tokens that allow to read and, unless there is none, to write. They are random unless
+    they are given."""
+
+    def __init__(
+        self, can_write: bool, read: Optional[str] = None, write: Optional[str] = None
+    ) -> None:
+        self.read = read or new_token()
+        self.write = (write or new_token()) if can_write else None
+        if self.read == self.write:
+            raise BadToken("the tokens for reading and for writing must differ")
 
     def check(self, token: bytes) -> Optional[bool]:
         """Returns whether a token allows to write, or None if it is wrong. Takes the same time for
         all wrong tokens."""
-        writes = hmac.compare_digest(token, (self.write or secrets.token_urlsafe(18)).encode())
+        writes = hmac.compare_digest(token, (self.write or new_token()).encode())
         reads = hmac.compare_digest(token, self.read.encode())
         if self.write is not None and writes:
             return True
@@ -47,6 +78,8 @@ class Viewer:
         "version",
         "row",
         "title_number",
+        "counts",
+        "is_stale",
         "is_behind",
         "has_end",
         "is_drained",
@@ -63,6 +96,8 @@ class Viewer:
         self.version: Optional[int] = None
         self.row: Optional[int] = None
         self.title_number = 0
+        self.counts = 0, 0
+        self.is_stale = False
         self.is_behind = False
         self.has_end = False
         self.is_drained = True

@@ -1,0 +1,213 @@
+"""Publishes a shared screen to a stream in Redis, from which relays serve viewers of their own."""
+
+from __future__ import annotations
+
+import asyncio
+import contextlib
+import secrets
+from typing import Callable, Dict, List, Optional
+
+from . import _stream as stream
+from ._redis import Loss, Redis, stop
+from ._share import Audience
+
+#: The longest time between two keyframes, in seconds, and the number of bytes of updates after
+#: which one is due earlier.
+KEYFRAME_GAP, KEYFRAME_BYTES = 5.0, 1 << 20
+
+#: How long after an error the next attempt is made, in seconds: twice as long each time.
+_FIRST_DELAY, _LONGEST_DELAY = 0.1, 2.0
+
+#: How long the end may take to reach Redis, in seconds.
+_PATIENCE = 3.0
+
+#: After how many seconds Redis forgets the streams of a server that has vanished, and of one that
+#: has ended.
+_KEPT, _KEPT_AFTER_END = 3600, 60
+
+#: Of how many relays input is accepted.
+_MAX_RELAYS = 1024
+
+
+class Taken(Exception):
+    """Raised when the stream belongs to another server."""
+
+
+class Publisher:
+    """Writes the versions of a screen to the stream `name`.
+
+    It is like a viewer: while Redis is slow, versions are left out. With a token, it also has the
+    program read what viewers of relays type. After an error, it begins anew with a keyframe.
+    """
+
+    def __init__(
+        self,
+        share: Audience,
+        redis: Redis,
+        name: str,
+        report: Callable[[str], None],
+        token: Optional[str] = None,
+        linger: float = 0.0,
+    ) -> None:
+        self._share, self._redis, self._name, self._report = share, redis, name, report
+        self._token = None if token is None else token.encode()
+        self._linger = linger
+        self.run = secrets.token_hex(8).encode()
+        self._owner = stream.owner_name(name)
+        self._loss = Loss(redis, report)
+        self._loop = asyncio.get_running_loop()
+        self._number = 0
+        self._version: Optional[int] = None
+        self._title_number = 0
+        self._keyframe_at = 0.0
+        self._update_len = 0
+        self._last_keyframe: Optional[bytes] = None
+        self._is_claimed = self._is_leaving = False
+        self._wake, self._over = asyncio.Event(), asyncio.Event()
+        self._last_numbers: Dict[bytes, int] = {}
+        share.listen(self._wake.set)
+        self._tasks = [self._loop.create_task(self._publish())]
+        if self._token is not None:
+            self._tasks.append(self._loop.create_task(self._read_input(self._token)))
+
+    async def close(self) -> None:
+        """Publishes the end, unless that takes too long, and ends."""
+        self._is_leaving = True
+        self._wake.set()
+        if self._share.status is not None or not self._loss.is_lost:
+            with contextlib.suppress(asyncio.TimeoutError):
+                await asyncio.wait_for(self._over.wait(), _PATIENCE)
+        try:
+            await stop(self._tasks)
+        finally:
+            await self._redis.close()
+
+    # ---- what the program shows
+
+    async def _publish(self) -> None:
+        delay = _FIRST_DELAY
+        while not self._over.is_set():
+            try:
+                await self._begin()
+                while not self._over.is_set():
+                    await self._publish_once()
+                    self._loss.found()
+                    delay = _FIRST_DELAY
+            except Taken:
+                self._report("another server publishes to this stream: publishing ends")
+                self._over.set()
+            except self._redis.errors as error:
+                self._loss.lost(error)
+                await asyncio.sleep(delay)
+                delay = min(2 * delay, _LONGEST_DELAY)
+
+    async def _begin(self) -> None:
+        """Takes the stream, unless it has been taken by another server since it was taken by this
+        one."""
+        # An entry may have been written without a reply. The number that is left out has relays
+        # take the keyframe.
+        self._number += 2
+        self._version = self._last_keyframe = None
+        if not self._is_claimed:
+            await self._redis.client.set(self._owner, self.run, ex=_KEPT)
+            self._is_claimed = True
+
+    async def _publish_once(self) -> None:
+        """Publishes what there is to publish, and waits until there is more."""
+        self._wake.clear()
+        has_keyframe = self._is_keyframe_due()
+        due = self._due(has_keyframe)
+        if has_keyframe:
+            self._check_owner(await self._redis.client.get(self._owner))
+        if due:
+            await self._add(due, has_keyframe)
+        if not self._over.is_set():
+            try:
+                await asyncio.wait_for(self._wake.wait(), stream.ALIVE_GAP)
+            except asyncio.TimeoutError:
+                await self._add([stream.ALIVE], False)
+
+    def _is_keyframe_due(self) -> bool:
+        """Whether there is none, or the last one is old. The end follows a keyframe, so that relays
+        that have missed entries get it, too."""
+        is_end = self._is_leaving or self._share.is_final
+        is_old = self._loop.time() - self._keyframe_at >= KEYFRAME_GAP
+        return self._version is None or is_end or is_old or self._update_len >= KEYFRAME_BYTES
+
+    def _due(self, has_keyframe: bool) -> List[bytes]:
+        """Returns the messages that lead to the present version, and a keyframe of it."""
+        share, cohort, due = self._share, self._share.cohort, []
+        if self._version is not None and self._version != cohort.version:
+            due.append(cohort.message(self._version))
+            self._update_len += len(due[0])
+        self._version = cohort.version
+        if has_keyframe:
+            due.append(stream.KEYFRAME + cohort.message(None)[1:])
+            self._keyframe_at, self._update_len = self._loop.time(), 0
+        if has_keyframe or self._title_number != share.title_number:
+            self._title_number = share.title_number
+            due.append(stream.TITLE + share.title)
+        if share.is_final and share.status is not None:
+            due.append(stream.END + b"%d" % share.status)
+        elif self._is_leaving and share.status is None:
+            due.append(stream.GONE)
+        return due
+
+    def _check_owner(self, owner: Optional[bytes]) -> None:
+        if owner is not None and owner != self.run:
+            raise Taken()
+
+    async def _add(self, due: List[bytes], has_keyframe: bool) -> None:
+        """Adds messages to the stream."""
+        is_end = due[-1][:1] in (stream.END, stream.GONE)
+        keyframe = 0
+        async with self._redis.client.pipeline(transaction=True) as calls:
+            calls.get(self._owner)
+            for position, message in enumerate(due, 1):
+                self._number += 1
+                fields = {b"run": self.run, b"number": b"%d" % self._number, b"message": message}
+                calls.xadd(self._name, fields)
+                if message[:1] == stream.KEYFRAME:
+                    keyframe = position
+            if is_end or has_keyframe:
+                seconds = _KEPT_AFTER_END + int(self._linger) if is_end else _KEPT
+                calls.set(self._owner, self.run, nx=True)
+                for name in (self._owner, self._name, stream.input_name(self._name)):
+                    calls.expire(name, seconds)
+            results = await calls.execute()
+        self._check_owner(results[0])
+        if has_keyframe:
+            await self._trim(results[keyframe])
+        if is_end:
+            self._over.set()
+
+    async def _trim(self, keyframe: bytes) -> None:
+        """Removes what is older than the keyframe before this one, which slow relays may still
+        read."""
+        oldest = self._last_keyframe or keyframe
+        self._last_keyframe = keyframe
+        await self._redis.client.xtrim(self._name, minid=oldest, approximate=False)
+
+    # ---- what viewers of relays type
+
+    async def _read_input(self, token: bytes) -> None:
+        name, place = stream.input_name(self._name), b"0-0"
+        while True:
+            try:
+                for place, fields in await self._redis.read(name, place):
+                    self._take(token, fields)
+            except self._redis.errors:
+                place = b"0-0"  # the stream may be a new one; what was read is not read again
+                await asyncio.sleep(1.0)
+
+    def _take(self, token: bytes, fields: Dict[bytes, bytes]) -> None:
+        """Has the program read what was typed, unless it is forged or was read before."""
+        try:
+            typed = stream.typed_of(token, self.run, fields)
+        except stream.Malformed:
+            return
+        if typed is None or typed.number <= self._last_numbers.get(typed.relay, -1):
+            return
+        if typed.relay in self._last_numbers or len(self._last_numbers) < _MAX_RELAYS:
+            self._last_numbers[typed.relay] = typed.number
+            self._share.type(typed.text)
