@@ -4,10 +4,8 @@ import os
 import re
 import subprocess
 
-from sources import read
+from sources import functions_in, read
 
-FUNCTION = re.compile(r"^( *)(?:pub(?:\([\w ]+\))? )?(?:const |unsafe |extern \"C\" )*fn (\w+)")
-BLOCK = re.compile(r"(?:unsafe )?(impl|pub trait|trait)(?:<.*?>)? (\w+)(.*)")
 FORM = re.compile(r"file: (?P<file>src/\S+)(?P<pairs>(\nold: .*\nnew:.*)+)")
 PAIR = re.compile(r"\nold: (.*)\nnew: ?(.*)")
 
@@ -17,22 +15,8 @@ def write(path, text):
         file.write(text)
 
 
-def function_at(lines, at):
-    """Returns the 1-based numbers of the first and last line of the function that contains a line, or None."""
-    for first in range(at, -1, -1):
-        head = FUNCTION.match(lines[first])
-        if head:
-            ends = (head[1] + "}", head[1] + "{}")
-            last = next(it for it in range(first, len(lines)) if lines[it] in ends)
-            while lines[first - 1].startswith(head[1] + "#["):
-                first -= 1
-            return (first + 1, last + 1) if last >= at else None
-    return None
-
-
 class Edit:
-    """A wrong edit: its pairs of texts, and the first and last lines of the functions that it changes; there are none
-    if the edit cannot be applied.
+    """A wrong edit: its pairs of texts, and the functions that it changes; there are none if the edit cannot be applied.
     """
 
     def __init__(self, folder, name, text):
@@ -42,7 +26,7 @@ class Edit:
         self.file = form["file"] if form else ""
         self.pairs = PAIR.findall(form["pairs"]) if form else []
         is_file = form and os.path.exists(f"{folder}/{self.file}")
-        self.functions = self.ranges() if is_file and self.applied(self.source()) is not None else []
+        self.functions = self.changed() if is_file and self.applied(self.source()) is not None else []
 
     def source(self):
         return read(f"{self.folder}/{self.file}")
@@ -55,41 +39,30 @@ class Edit:
             text = text.replace(old, new)
         return text
 
-    def ranges(self):
-        """Returns the lines of each function, including its attributes, or no lines if a text is outside of functions.
-        """
+    def changed(self):
+        """Returns the changed functions, or none if a text is outside of functions."""
         source = self.source()
-        starts = [source.find(old) for old, _ in self.pairs]
-        found = [function_at(source.split("\n"), source[:it].count("\n")) for it in starts if it >= 0]
-        return found if all(found) else []
-
-    def heads(self):
-        """Returns the line of each `fn` in the changed functions, with its match."""
-        lines = self.source().split("\n")
-        for first, last in self.functions:
-            at = next(it for it in range(first - 1, last) if FUNCTION.match(lines[it]))
-            yield at, FUNCTION.match(lines[at])
+        places = [source[: source.find(old)].count("\n") + 1 for old, _ in self.pairs if old in source]
+        found = [[it for it in functions_in(self.file, source) if it.first <= at <= it.last] for at in places]
+        return [it[-1] for it in found] if all(found) else []
 
     def paths(self):
         """Returns the argument of --only for each changed function: the end of its name as a check prints it, or
         its module if it is a method of a trait."""
-        lines = self.source().split("\n")
         module = re.sub(r"^src/|\.rt$", "", self.file).replace("/", "::")
-        for at, head in self.heads():
-            blocks = (BLOCK.match(lines[it]) for it in range(at, -1, -1))
-            block = next((it for it in blocks if it), None) if head[1] else None
-            if block and block[1] == "impl" and " for " in block[3]:
+        for it in self.functions:
+            if it.block and it.block.trait:
                 yield module
-            elif block:
-                yield f"{block[2]}::{head[2]}"
+            elif it.block:
+                yield f"{it.owner}::{it.name}"
             else:
-                yield head[2] if module in ("lib", "main") else f"{module.split('::')[-1]}::{head[2]}"
+                yield it.name if module in ("lib", "main") else f"{module.split('::')[-1]}::{it.name}"
 
     def has(self, file, line):
-        return file == self.file and any(first <= line <= last for first, last in self.functions)
+        return file == self.file and any(it.first <= line <= it.last for it in self.functions)
 
     def meets(self, other):
-        return self.file == other.file and any(other.has(self.file, first) for first, _ in self.functions)
+        return any(other.has(self.file, it.first) for it in self.functions)
 
     def changes(self, function):
         """Returns whether the edit changes a function of a check, judging by the places that were named, or by its
@@ -98,7 +71,7 @@ class Edit:
             return any(self.has(*it) for it in function.places)
         module = re.sub(r"^src/|\.rt$", "", self.file).split("/")[0]
         parts = function.name.split("::")[1:]
-        own = [head[2] for _, head in self.heads()]
+        own = [it.name for it in self.functions]
         return parts[-1] in own and (module in ("lib", "main") or parts[0] == module)
 
 

@@ -50,10 +50,16 @@ class Block:
 
 
 class Function:
-    """A function: where it is, its signature, and its clauses by label (`""` for one without a label)."""
+    """A function: where it is (its line, and the first and the last one with its attributes and its body), its signature,
+    and its clauses by label (`""` for one without a label)."""
 
-    def __init__(self, file, line, found, block):
-        self.file, self.line, self.block = file, line, block
+    def __init__(self, file, lines, at, found, block):
+        self.file, self.line, self.block = file, at + 1, block
+        ends = (found["indent"] + "}", found["indent"] + "{}")
+        self.last = next((it + 1 for it in range(at, len(lines)) if lines[it] in ends), self.line)
+        self.first = self.line
+        while lines[self.first - 2].startswith(found["indent"] + "#["):
+            self.first -= 1
         self.name, self.is_public = found["name"], found["public"] == "pub "
         self.owner = block.owner if block else ""
         self.signature = ""
@@ -105,7 +111,7 @@ def functions_in(file, text):
             block = None
         head = FUNCTION.match(line)
         if head and len(head["indent"]) in (0, 4):
-            function = Function(file, at + 1, head, block if head["indent"] else None)
+            function = Function(file, lines, at, head, block if head["indent"] else None)
             add_clauses(function, head_lines(lines, at, head["indent"]))
             found.append(function)
     return found

@@ -166,7 +166,8 @@ class Edits(unittest.TestCase):
 
     def test_fit(self):
         inside, twice, outside = self.edits("self.rows.get(at)", "self.now", "A crate")
-        self.assertEqual((inside.name, inside.functions), ("self.rows.get(at)", [(7, 14)]))
+        places = [(it.first, it.last) for it in inside.functions]
+        self.assertEqual((inside.name, places), ("self.rows.get(at)", [(7, 14)]))
         self.assertEqual((twice.functions, outside.functions), ([], []))
 
     def test_forms(self):
