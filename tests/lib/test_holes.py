@@ -82,15 +82,8 @@ class Holes(unittest.TestCase):
         self.assert_reported("docs/TRUST.md", line, "", ["tests/trust"], "too much")
 
     def test_a_clause_that_does_not_exist(self):
-        command = ["python3", "-B", "tests/lib/theorems.py", "."]
-        line = r"`vt100::laws::one_text`, `\w+`"
-        path = "docs/THEOREMS.md"
-        whole = read(f"{self.room}/{path}")
-        try:
-            write(f"{self.room}/{path}", re.sub(line, "`vt100::laws::one_text`, `heard`", whole))
-            self.assertIn("no such clause: heard", self.said(*command)[1])
-        finally:
-            write(f"{self.room}/{path}", whole)
+        line, other = r"`vt100::laws::one_text`, `\w+`", "`vt100::laws::one_text`, `heard`"
+        self.assert_reported("docs/THEOREMS.md", line, other, ["tests/documents"], "no such clause: heard")
 
     def test_a_mark_that_is_removed(self):
         row = r"^(\| `contents_formatted\(\)`) \*\*M\*\*"

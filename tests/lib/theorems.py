@@ -4,11 +4,11 @@ A promise is a line of a list or table. Its contract consists of the names betwe
 last column. They are read from left to right: one or more functions, and then clauses, each of which must be a clause
 of one of those functions, or a field of a definition that their clauses name. After a semicolon, and in a line that
 names no function, clauses may belong to any function named earlier in the section. An unqualified name is looked up
-next to the function before it. If names can be read in several ways, one reading must fit the whole line. Clauses of
-the kit's traits are not looked up.
+next to the function before it. A name that can be a clause or a function is a clause. Clauses of the kit's traits are
+not looked up.
 """
+import dataclasses
 import re
-import sys
 
 from definitions import Walk
 from sources import read
@@ -74,33 +74,25 @@ class Names:
         return any(name in self.fields(it, label) for it in functions for label in ("", *labels))
 
 
+@dataclasses.dataclass(frozen=True)
 class State:
-    """The state of a reading: the functions whose clauses follow, with the clauses named so far, the previous
-    functions, the functions next to them, and whether the section has named a function, not only types or modules."""
+    """The state of a reading: the functions whose clauses follow, with the clauses named so far, the functions named
+    earlier, those next to which names are looked up, whether the section has named a function, not only types or
+    modules, and whether a trait of the kit was named last."""
 
-    is_at_kits, labels = False, ()
-
-    def __init__(self, functions=(), earlier=(), near=(), is_named=False):
-        self.functions, self.earlier, self.near, self.is_named = functions, earlier, near, is_named
+    functions: tuple = ()
+    labels: tuple = ()
+    earlier: tuple = ()
+    near: tuple = ()
+    is_named: bool = False
+    is_at_kits: bool = False
 
     def after_semicolon(self):
-        return State((), (*self.earlier, *self.functions), self.near, self.is_named)
+        earlier = (*self.earlier, *self.functions)
+        return dataclasses.replace(self, functions=(), labels=(), earlier=earlier, is_at_kits=False)
 
     def with_functions(self, found):
-        return State((*self.functions, *found), self.earlier, tuple(found), True)
-
-    def with_label(self, label):
-        found = State(self.functions, self.earlier, self.near, self.is_named)
-        found.labels = (*self.labels, label)
-        return found
-
-    def at_kits_trait(self):
-        found = self.after_semicolon()
-        found.is_at_kits = True
-        return found
-
-    def at_place(self, found, earlier):
-        return State((), earlier, tuple(found), self.is_named)
+        return State((*self.functions, *found), (), self.earlier, tuple(found), True)
 
 
 def beside(found, near):
@@ -112,48 +104,44 @@ def beside(found, near):
     return inside or [it for it in found if it.is_public and crate_of(it) in crates]
 
 
-def readings(names, state, name):
-    """Returns all states after one more name."""
-    labels = {label for it in state.functions or state.earlier for label in it.labels()}
-    if name in labels:
-        yield state.with_label(name)
-    elif any((crate_of(it), name) in names.ghosts for it in state.near):
-        yield state
-    elif names.has_field(state.functions or state.earlier, state.labels if state.functions else labels, name):
-        yield state
-    elif state.is_at_kits or not state.functions and not state.is_named and names.is_label_in_crate(state.near, name):
-        yield state
+def is_clause(names, state, name):
+    """Returns whether a name can be a clause, or a field of a definition that clauses name."""
+    functions = state.functions or state.earlier
+    labels = {label for it in functions for label in it.labels()}
+    return (
+        name in labels
+        or any((crate_of(it), name) in names.ghosts for it in state.near)
+        or names.has_field(functions, state.labels if state.functions else labels, name)
+        or state.is_at_kits
+        or not state.functions and not state.is_named and names.is_label_in_crate(state.near, name)
+    )
+
+
+def after_name(names, state, name):
+    """Returns the state after one more name, or None if the name fits nothing."""
+    if is_clause(names, state, name):
+        return dataclasses.replace(state, labels=(*state.labels, name))
     found = names.functions_at(name)
     if "::" not in name and state.near:
-        close = beside(found, state.near)
-        found = close or ([] if state.functions else found)
+        found = beside(found, state.near) or ([] if state.functions else found)
     if found:
-        yield state.with_functions(found)
-        if state.functions:
-            yield state.after_semicolon().with_functions(found)
-    place = names.at_place(name)
+        return state.with_functions(found)
+    place = tuple(names.at_place(name))
     if any(it.block and it.block.trait == name for it in place):
-        yield state.at_kits_trait()
+        return dataclasses.replace(state.after_semicolon(), is_at_kits=True)
     if place:
-        yield state.at_place(place, state.earlier)
-        yield state.at_place(place, tuple(place))
-    if name[0].isupper() and not found and not place:
-        yield state
+        return State((), (), (*state.earlier, *place), place, state.is_named)
+    return state if name[0].isupper() else None
 
 
 def read_line(names, state, words):
-    """Returns the state after all words, or None and the first word that fits no reading."""
-    best, stack = 0, [(0, state)]
-    while stack:
-        at, state = stack.pop()
-        best = max(best, at)
-        if at == len(words):
-            return state, None
-        if words[at] == ";":
-            stack.append((at + 1, state.after_semicolon()))
-        else:
-            stack += [(at + 1, it) for it in reversed([*readings(names, state, words[at])])]
-    return None, words[best]
+    """Returns the state after all words, or None and the first word that fits nothing."""
+    for word in words:
+        after = state.after_semicolon() if word == ";" else after_name(names, state, word)
+        if after is None:
+            return None, word
+        state = after
+    return state, None
 
 
 def words_of(text):
@@ -177,8 +165,3 @@ def check(root, text=None):
                 faults.append(f"docs/THEOREMS.md:{number}: no such clause: {fault}")
             state = after or state
     return faults, count
-
-
-if __name__ == "__main__":
-    found = check(sys.argv[1])
-    print(*found[0], found[1], sep="\n")

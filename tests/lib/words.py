@@ -1,12 +1,6 @@
-"""Finds retired words in comments and documents.
-
-    words.py FOLDER    prints a line for each retired word, and the number of files read
-
-The right-hand column of RETIRED says what to write instead.
-"""
+"""Finds retired words in comments and documents. The right-hand column of RETIRED says what to write instead."""
 import glob
 import re
-import sys
 
 from sources import read
 
@@ -61,13 +55,9 @@ def retired_in(path, text):
                     yield number, found[0], instead
 
 
-def main(root):
+def check(root):
+    """Returns a line for each retired word, and the number of files read."""
     paths = sorted(path for place in PLACES for path in glob.glob(f"{root}/{place}", recursive=True))
-    for path in paths:
-        for number, word, instead in retired_in(path, read(path)):
-            print(f"{path[len(root) + 1:]}:{number}: {word!r}: write {instead}")
-    print(len(paths))
-
-
-if __name__ == "__main__":
-    main(sys.argv[1])
+    found = ((path, it) for path in paths for it in retired_in(path, read(path)))
+    lines = [f"{path[len(root) + 1:]}:{number}: {word!r}: write {instead}" for path, (number, word, instead) in found]
+    return lines, len(paths)
