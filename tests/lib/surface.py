@@ -103,11 +103,10 @@ class Surface:
             if len(found) != 1:
                 self.lines.add(f"use {prefix}{name}: {len(found)} items of {crate} have this name")
             for source, at, item in found:
-                self.lines.add(f"use {prefix}{name} of {crate}")
                 if item:
-                    self.add_item(source, at, item, prefix)
+                    self.add_item(source, at, item, prefix, f" of {crate}")
                 else:
-                    self.add_function(at, prefix)
+                    self.add_function(at, prefix, f" of {crate}")
 
     def folder_of(self, crate, modules, name):
         """Returns the prefix of the paths of the files that can define a name exported by a crate or one of its
@@ -134,16 +133,17 @@ class Surface:
                 if it.name == name and it.is_public and not it.block:
                     yield source, it, None
 
-    def add_function(self, function, prefix):
+    def add_function(self, function, prefix, of=""):
+        """Adds a function, with the crate that defines it if it is re-exported."""
         self.functions.append((prefix, function))
         head = re.sub(r"^pub ", "", function.signature).replace("( ", "(").replace(", )", ")")
-        self.lines.add(re.sub(r"\bfn (\w+)", rf"fn {prefix}\1", head, count=1))
+        self.lines.add(re.sub(r"\bfn (\w+)", rf"fn {prefix}\1", head, count=1) + of)
 
-    def add_item(self, source, at, item, prefix):
+    def add_item(self, source, at, item, prefix, of=""):
         """Adds a type, a trait or a constant, with its variants, fields and associated items."""
         kind, name = item["kind"], item["name"]
         head = re.sub(rf"^pub (.*?)\b{name}\b", rf"\1{prefix}{name}", source.head(at))
-        self.lines.add(head)
+        self.lines.add(head + of)
         if kind in ("struct", "enum", "trait", "union"):
             self.names[name] = source
             self.lines.update(f"impl {it} for {name}" for it in source.derived(at))
@@ -201,6 +201,38 @@ class Surface:
         """Returns the iterators whose items are results."""
         found = (re.match(r"type (\w+)::Item = Result<.*, Error>", it) for it in self.lines)
         return {it[1] for it in found if it}
+
+
+# Items that differ only in one name are written in one line, with bars between the names.
+JOINED = re.compile(
+    r"(impl )(.*?)( for .*)|(variant \w+::)(.*)()|(fn (?:\w+::)?)(\w+(?: \| \w+)*)(.*)"
+    r"|(struct |enum )(.*?)( of \w+)|(type )(\w+(?: \| \w+)*)(::.*)"
+)
+LENGTH = 120
+
+
+def parts_of(line):
+    """Returns the text before the name or names in a line, these names, and the text after them."""
+    found = JOINED.fullmatch(line)
+    return [it for it in found.groups() if it is not None] if found else (line, "", "")
+
+
+def joined(lines):
+    """Returns the lines in order, with items joined up to a length of the line."""
+    found = {}
+    for line in sorted(lines):
+        start, name, end = parts_of(line)
+        texts = found.setdefault((start, end), [])
+        if texts and len(start + texts[-1] + name + end) + 3 <= LENGTH:
+            texts[-1] += f" | {name}"
+        else:
+            texts.append(name)
+    return [f"{start}{text}{end}" for (start, end), texts in found.items() for text in texts]
+
+
+def parted(lines):
+    """Returns the items of lines in which some are joined."""
+    return {start + name + end for start, names, end in map(parts_of, lines) for name in names.split(" | ")}
 
 
 def without_bounds(head):

@@ -104,7 +104,7 @@ class Holes(unittest.TestCase):
 
     def test_a_changed_expectation(self):
         path = "tests/surface.expected"
-        self.assert_reported(path, r"^fn Cell::bold\(&self\) -> bool\n", "", ["tests/surface"], "fn Cell::bold")
+        self.assert_reported(path, r"^fn Cell::bold \| ", "fn Cell::", ["tests/surface"], "fn Cell::bold")
 
     def test_an_unused_import(self):
         file = "crates/vt_cells/src/color.rt"
