@@ -4,10 +4,6 @@ import shutil
 import sys
 
 
-class NoWay(Exception):
-    """The kit has an unexpected form."""
-
-
 def newest(folder):
     """Returns the time at which the newest file of a crate outside of out/ was written."""
     times = []
@@ -18,17 +14,18 @@ def newest(folder):
 
 
 def libraries(root, name):
-    """Returns the libraries on which a crate depends, lowest first, each with its directory and its stamp."""
-    kit = os.path.dirname(os.path.realpath(shutil.which("rt") or "rt"))
-    sys.path.insert(0, kit)
+    """Returns the libraries on which a crate depends, lowest first, each with its directory and its stamp, by the kit's
+    own module, or an error if that has an unexpected form.
+    """
+    sys.path.insert(0, os.path.dirname(os.path.realpath(shutil.which("rt") or "rt")))
     try:
         import rtlib
 
         folder = f"{root}/crates/{name}"
         os.chdir(folder)
-        return [(it.name, it.folder, it.stamp()) for it in rtlib.Crate(folder, root, {}, name=None).below()]
+        return [(it.name, it.folder, it.stamp()) for it in rtlib.Crate(folder, root, {}, name=None).below()], None
     except (ImportError, AttributeError, TypeError) as error:
-        raise NoWay(f"the kit's rtlib has another form: {error}") from error
+        return [], error
 
 
 def copy_files(root, to):
@@ -59,13 +56,15 @@ def take(name, folder, stamp, to):
 
 def take_built(root, name, to):
     """Copies the files, unless they are there already, and the libraries on which a crate depends, up to the first that
-    cannot be copied, and returns a report of one line.
+    cannot be copied. Prints a report of one line, and returns whether the kit has the expected form.
     """
     if not os.path.isdir(f"{to}/crates"):
         copy_files(root, to)
-    below = libraries(root, name)
-    for count, (library, folder, stamp) in enumerate(below):
-        why = take(library, folder, stamp, to)
-        if why:
-            return f"take-built: took {count} of {len(below)} libraries below {name}: {why}; rt proves the others anew"
-    return f"take-built: took all {len(below)} libraries below {name}"
+    below, error = libraries(root, name)
+    count, why = 0, error and f"the kit's rtlib has another form: {error}"
+    while not why and count < len(below):
+        why = take(*below[count], to)
+        count += not why
+    end = f": {why}; rt proves the others anew" if why else ""
+    print(f"take-built: took {count} of {len(below)} libraries below {name}{end}", flush=True)
+    return error is None
