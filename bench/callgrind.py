@@ -31,6 +31,18 @@ def per_byte(program, screen, capacity, path, less=0, more=1, what="process"):
     return (many - few) / ((more - less) * os.path.getsize(path))
 
 
+def counts_in(name):
+    """Returns the counts in a table that bench/calls prints, by call, screen and capacity, and then by input."""
+    with open(os.path.join(TOP, "bench", f"{name}.tsv"), encoding="utf-8") as file:
+        rows = [line.split() for line in file]
+    return {tuple(row[:3]): {it.split("=")[0]: int(it.split("=")[1]) for it in row[3:]} for row in rows}
+
+
+def ratio(count, other):
+    """Returns another count, and the ratio to it, as text after a count; nothing if there is no other count."""
+    return f"/{other}={count / other:.2f}" if other else ""
+
+
 def write_inputs(script, folder, *arguments):
     """Runs a script of this directory that writes inputs into a directory."""
     subprocess.run([os.path.join(TOP, "bench", script), folder, *arguments], check=True)
