@@ -278,28 +278,23 @@ class Interface:
         owners = {bullet[1]} if bullet else set(re.findall(r"\w+", title))
         is_row = line.startswith("| ") and owners & set(self.surface.names)
         shown = line.split(" | ")[0] if is_row else line
-        found = []
         for name, inside in re.findall(r"`(\w+)\(([^`]*)\)`", shown):
             for prefix, it in self.surface.functions:
                 if it.name == name and prefix.rstrip(":") in owners:
                     self.check_call(it, inside)
-                    found.append(it)
-        if is_row and found:
-            self.check_mark(found, line)
+                    if is_row:
+                        self.check_mark(it, "**M**" in line)
 
     def check_call(self, function, inside):
-        shown = split_at_commas(inside)
-        wanted = parameters(function)
-        fits = len(shown) == len(wanted) and all(map(is_shown_as, wanted, shown))
-        if not fits:
+        shown, wanted = split_at_commas(inside), parameters(function)
+        if len(shown) != len(wanted) or not all(map(is_shown_as, wanted, shown)):
             names = ", ".join(it for it, _ in wanted)
             self.faults.append(f"docs/INTERFACE.md: {function.name}({inside}) takes ({names})")
 
-    def check_mark(self, functions, line):
-        for it in functions:
-            if fails(it, self.failing) != ("**M**" in line):
-                word = "no mark" if "**M**" not in line else "a mark that it must not have"
-                self.faults.append(f"docs/INTERFACE.md: {it.owner}::{it.name} has {word}")
+    def check_mark(self, function, is_marked):
+        if fails(function, self.failing) != is_marked:
+            word = "a mark that it must not have" if is_marked else "no mark"
+            self.faults.append(f"docs/INTERFACE.md: {function.owner}::{function.name} has {word}")
 
 
 def is_shown_as(parameter, shown):
