@@ -1,5 +1,5 @@
 # The tests of the Debian packages, which tests/packages reads and runs by calling in_debian. Its functions and
-# variables are used here, such as `try`, `shows`, `$made` and `$room`.
+# variables are used here, such as `try`, `links_lead`, `$made` and `$room`.
 # shellcheck shell=bash disable=SC2154
 
 libraries=./usr/lib/x86_64-linux-gnu
@@ -103,7 +103,7 @@ END
   has lintian && try 'Debian: lintian' passes_lintian
   if has cc; then
     try 'Debian: a program' compile_installed
-    try 'Debian: shared object' shows env "LD_LIBRARY_PATH=$room/system/usr/lib/x86_64-linux-gnu" \
+    try 'Debian: shared object' example vtshow env "LD_LIBRARY_PATH=$room/system/usr/lib/x86_64-linux-gnu" \
       ./installed
   fi
   has pkg-config && try 'Debian: pkg-config' asks_pkg_config
