@@ -16,7 +16,7 @@ def read(path):
 
 
 def blocks(text):
-    """Returns the text outside of blocks of code, and the blocks: the rest of the line that begins each, and its code."""
+    """Returns the text outside of blocks of code, and the blocks: the mark after the first backquotes, and the code."""
     parts = re.split(r"^```(.*)\n((?:(?!```).*\n)*)```.*$", text, flags=re.M)
     return "".join(parts[::3]), [*zip(parts[1::3], parts[2::3])]
 

@@ -50,8 +50,8 @@ class Block:
 
 
 class Function:
-    """A function: where it is (its line, and the first and the last one with its attributes and its body), its signature,
-    and its clauses by label (`""` for one without a label)."""
+    """A function: where it is (its line, and the first and the last one with its attributes and its body), its
+    signature, and its clauses by label (`""` for one without a label)."""
 
     def __init__(self, file, lines, at, found, block):
         self.file, self.line, self.block = file, at + 1, block
