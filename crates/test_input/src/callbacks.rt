@@ -2,7 +2,7 @@
 //! that count the calls of each method.
 
 ghost use Rattle.std.specs.Prelude.{IfOk};
-ghost use Rattle.test_terminal.specs.Changing.{Becomes, Exchanges, LooksBack, Resizes};
+ghost use Rattle.test_input.specs.Changing.{Becomes, Exchanges, LooksBack, Resizes};
 ghost use Rattle.vt100.specs.Parser.{Ran};
 ghost use Rattle.vt_screen.specs.Pages.{screen_after_resize};
 ghost use Rattle.vt_screen.specs.Screen.{scrolled_back};
@@ -51,7 +51,7 @@ impl Resizer {
 }
 
 impl Callbacks for Resizer {
-    ghost use Rattle.test_terminal.specs.Changing.{Resizes};
+    ghost use Rattle.test_input.specs.Changing.{Resizes};
 
     ghost does = { Resizes };
 
@@ -94,7 +94,7 @@ impl Exchanger {
 }
 
 impl Callbacks for Exchanger {
-    ghost use Rattle.test_terminal.specs.Changing.{Exchanges};
+    ghost use Rattle.test_input.specs.Changing.{Exchanges};
 
     ghost does = { Exchanges };
 
@@ -142,7 +142,7 @@ impl Viewer {
 }
 
 impl Callbacks for Viewer {
-    ghost use Rattle.test_terminal.specs.Changing.{LooksBack};
+    ghost use Rattle.test_input.specs.Changing.{LooksBack};
 
     ghost does = { LooksBack };
 

@@ -1,10 +1,10 @@
 //! Tests of which screens are steady. A screen is steady if each of its visible glyphs reproduces
 //! itself when printed on a blank row.
 
-use crate::examples::Step::{self, Resize, Text, View};
-use crate::examples::{Pieces, taken};
 use std::alloc::Global;
 use std::test::Fail;
+use test_input::examples::Step::{self, Resize, Text, View};
+use test_input::examples::{Pieces, taken};
 use vt100::Screen;
 
 /// An example: a size, a scrollback capacity, the steps, and whether the screen is steady after the

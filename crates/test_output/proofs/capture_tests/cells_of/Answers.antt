@@ -3,7 +3,7 @@ use Rattle.std.specs.Prelude.{All}
 use Rattle.std.proofs.lemmas.List.{take-append-le, take_all}
 use Rattle.vt_cells.specs.Cell.{IsCell}
 use Rattle.vt_rows.specs.Cells.{IsPaired}
-use Rattle.test_terminal.proofs.capture_tests.cells_of.Goals as goal
+use Rattle.test_output.proofs.capture_tests.cells_of.Goals as goal
 
 pub loop-column-preserved : goal.loop-column-preserved
 loop-column-preserved c =

@@ -1,13 +1,13 @@
 //! Tests of captures: of the displayed rows, of all rows, of rows as they scroll off, and into
 //! sinks that fail.
 
-use crate::examples::Step::{self, Bytes, Resize, Text, View};
-use crate::examples::{
-    Pieces, expect_read_back_at_each_byte, expect_text, feed, read_keeping, size_of, taken,
-};
 use std::alloc::Global;
 use std::process::Abort;
 use std::test::Fail;
+use test_input::examples::Step::{self, Bytes, Resize, Text, View};
+use test_input::examples::{
+    Pieces, expect_read_back_at_each_byte, expect_text, feed, read_keeping, size_of, taken,
+};
 use vt_notes::Recorder;
 use vt100::capture::{
     BasicFormattedCaptureRange, BasicFormattedCaptureState, basic_formatted_rows,

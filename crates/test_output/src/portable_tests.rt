@@ -1,11 +1,11 @@
 //! Tests of portable redraws and diffs, which avoid sequences on whose effects terminals disagree.
 
 use crate::difference_tests::{Example, expect_at_each_cut};
-use crate::examples::Step::Text;
-use crate::readback::Asked::Portable;
-use crate::readback::Change;
 use crate::redraw_tests::{Example as Redrawn, expect_at_each_cut as expect_redraw, wanted_text};
 use std::test::Fail;
+use test_input::examples::Step::Text;
+use test_input::readback::Asked::Portable;
+use test_input::readback::Change;
 use vt100::{DiffOptions, Repeat};
 
 /// Portable diffs without REP.

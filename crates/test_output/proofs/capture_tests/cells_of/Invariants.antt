@@ -1,7 +1,7 @@
 use Rattle.std.specs.Prelude.{All}
 use Rattle.vt_cells.specs.Cell.{IsCell}
 use Rattle.vt_rows.specs.Cells.{IsPaired}
-use Rattle.test_terminal.proofs.capture_tests.cells_of.Given as goal
+use Rattle.test_output.proofs.capture_tests.cells_of.Given as goal
 
 abbrev pub invariant-loop-column : goal.invariant-loop-column
 invariant-loop-column l = record {

@@ -13,7 +13,7 @@ use vt100::{
 
 /// An action on a parser or its screen.
 #[derive(Clone, Copy, Debug)]
-pub(crate) enum Step {
+pub enum Step {
     /// Parses a string.
     Text(&'static str),
 
@@ -36,14 +36,14 @@ pub(crate) enum Step {
 /// The way in which bytes are split: into two chunks, of which the first has at most the given
 /// number of bytes, or into single bytes.
 #[derive(Clone, Copy)]
-pub(crate) enum Pieces {
+pub enum Pieces {
     Two(usize),
     Single,
 }
 
 impl Step {
     /// Returns the bytes that the step parses.
-    pub(crate) fn bytes(self) -> &'static [u8] {
+    pub fn bytes(self) -> &'static [u8] {
         match self {
             Step::Text(text) => text.as_bytes(),
             Step::Bytes(bytes) => bytes,
@@ -52,7 +52,7 @@ impl Step {
     }
 
     /// Applies the step to a parser or its screen.
-    pub(crate) fn take(self, parser: &mut Parser<Notes>, pieces: Pieces) -> Result<(), Fail> {
+    pub fn take(self, parser: &mut Parser<Notes>, pieces: Pieces) -> Result<(), Fail> {
         match self {
             Step::Text(_) | Step::Bytes(_) => feed(parser, self.bytes(), pieces)?,
             Step::Resize(rows, cols) => {
@@ -71,7 +71,7 @@ impl Step {
 }
 
 /// Converts a row count and a column count to nonzero integers. Fails if either count is 0.
-pub(crate) fn size_of((rows, cols): (u16, u16)) -> Result<(NonZeroU16, NonZeroU16), Fail> {
+pub fn size_of((rows, cols): (u16, u16)) -> Result<(NonZeroU16, NonZeroU16), Fail> {
     let rows = NonZeroU16::new(rows).ok_or("no rows")?;
     let cols = NonZeroU16::new(cols).ok_or("no columns")?;
     Ok((rows, cols))
@@ -79,7 +79,7 @@ pub(crate) fn size_of((rows, cols): (u16, u16)) -> Result<(NonZeroU16, NonZeroU1
 
 /// Creates a parser of the given size with a scrollback of `capacity` rows, and applies `steps` to
 /// it.
-pub(crate) fn taken(
+pub fn taken(
     alloc: Global,
     size: (u16, u16),
     capacity: usize,
@@ -94,7 +94,7 @@ pub(crate) fn taken(
 }
 
 /// Returns the length in bytes of the longest input that a step in `steps` parses.
-pub(crate) fn longest(steps: &[Step]) -> usize {
+pub fn longest(steps: &[Step]) -> usize {
     let mut longest: usize = 0;
     for step in steps {
         longest = longest.max(step.bytes().len());
@@ -103,7 +103,7 @@ pub(crate) fn longest(steps: &[Step]) -> usize {
 }
 
 /// Feeds bytes to a parser, split according to `pieces`.
-pub(crate) fn feed<CB: Callbacks>(
+pub fn feed<CB: Callbacks>(
     parser: &mut Parser<CB>,
     bytes: &[u8],
     pieces: Pieces,
@@ -125,12 +125,12 @@ pub(crate) fn feed<CB: Callbacks>(
 
 /// An example: the size of a new parser, its scrollback capacity, the steps, and the expected
 /// observable state after the steps.
-pub(crate) type Example = ((u16, u16), usize, &'static [Step], &'static str);
+pub type Example = ((u16, u16), usize, &'static [Step], &'static str);
 
 /// Checks examples, with the bytes of their steps in two chunks and one by one. Fails if the state
 /// after an example's steps is not the expected one. Also fails if, after some prefix of the bytes,
 /// a terminal that parses the screen's output does not display the screen.
-pub(crate) fn expect_each(alloc: Global, examples: &[Example]) -> Result<(), Fail> {
+pub fn expect_each(alloc: Global, examples: &[Example]) -> Result<(), Fail> {
     for (size, capacity, steps, wanted) in examples {
         expect_at_each_cut(alloc, *size, *capacity, steps, wanted)?;
     }
@@ -140,7 +140,7 @@ pub(crate) fn expect_each(alloc: Global, examples: &[Example]) -> Result<(), Fai
 /// Applies `steps` to new parsers, with the bytes in two chunks and one by one. Fails if a parser's
 /// state afterward is not `wanted`. Also fails if, after some prefix of the bytes, a terminal that
 /// parses the screen's output does not display the screen.
-pub(crate) fn expect_at_each_cut(
+pub fn expect_at_each_cut(
     alloc: Global,
     size: (u16, u16),
     capacity: usize,
@@ -170,7 +170,7 @@ fn expect_after(
 
 /// Fails if the state of `parser` is not `wanted`. The failure message lists `steps`, the steps
 /// that led to that state.
-pub(crate) fn expect(
+pub fn expect(
     alloc: Global,
     parser: &Parser<Notes>,
     steps: &[Step],
@@ -184,7 +184,7 @@ pub(crate) fn expect(
 }
 
 /// Fails if two strings differ.
-pub(crate) fn expect_text(text: String, wanted: &str) -> Result<(), Fail> {
+pub fn expect_text(text: String, wanted: &str) -> Result<(), Fail> {
     if text.as_str() == wanted {
         Ok(())
     } else {
@@ -207,7 +207,7 @@ fn seen(alloc: Global, parser: &Parser<Notes>) -> Result<String, Fail> {
 /// out. The cursor position follows. All other state appears only if it is not the default: whether
 /// the alternate page is active, the number of rows in scrollback and how many of them are
 /// displayed, attributes, and modes.
-pub(crate) fn shown(alloc: Global, screen: &Screen) -> Result<String, Fail> {
+pub fn shown(alloc: Global, screen: &Screen) -> Result<String, Fail> {
     let (rows, _cols) = screen.size();
     let mut text = String::new(alloc);
     for row in 0..rows.get() {
@@ -223,17 +223,13 @@ pub(crate) fn shown(alloc: Global, screen: &Screen) -> Result<String, Fail> {
 }
 
 /// Creates a parser of the given size, and feeds the chunks to it.
-pub(crate) fn read(
-    alloc: Global,
-    size: (u16, u16),
-    pieces: &[&[u8]],
-) -> Result<Parser<Notes>, Fail> {
+pub fn read(alloc: Global, size: (u16, u16), pieces: &[&[u8]]) -> Result<Parser<Notes>, Fail> {
     read_keeping(alloc, size, 0, pieces)
 }
 
 /// Creates a parser of the given size with a scrollback of `capacity` rows, and feeds the chunks to
 /// it.
-pub(crate) fn read_keeping(
+pub fn read_keeping(
     alloc: Global,
     size: (u16, u16),
     capacity: usize,
@@ -355,7 +351,7 @@ fn write_words(text: &mut String, words: &[(bool, &str)]) -> Result<(), AllocErr
 /// Applies `steps` to a new parser, and checks the screen after each byte. Fails if a terminal that
 /// parses the output of `state_formatted`, or that of `state_diff` from the screen before the byte,
 /// does not have the display and modes of the screen.
-pub(crate) fn expect_read_back_at_each_byte(
+pub fn expect_read_back_at_each_byte(
     alloc: Global,
     size: (u16, u16),
     capacity: usize,

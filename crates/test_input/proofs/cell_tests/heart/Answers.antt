@@ -5,7 +5,7 @@ use Rattle.unicode_width.proofs.Computing.{unicode_width}
 use Rattle.vt_cells.specs.Cell.{CellValue, IsCell, cell_with_mark, cell_made_wide}
 use Rattle.vt_cells.specs.Glyph.{columns_of}
 use Rattle.vt_cells.proofs.Glyphs.{IsGlyphText-first, IsGlyphText-selector}
-use Rattle.test_terminal.proofs.cell_tests.heart.Goals as goal
+use Rattle.test_input.proofs.cell_tests.heart.Goals as goal
 
 heart_columns : columns_of 0x2764 ≡ Some 1
 unfolding columns_of unicode_width

@@ -2,14 +2,16 @@
 //! terminal that parses them.
 
 use crate::difference_tests::{Example as Difference, expect_at_each_cut as expect_difference};
-use crate::examples::Step::{self, Text, View};
-use crate::examples::{
-    Pieces, expect, expect_read_back_at_each_byte, feed, longest, read, read_keeping, taken,
-};
-use crate::readback::Asked::{self, Attributes, Cursor, Modes, Portable, Redraw, Reset, State};
-use crate::readback::{ASKED, Change};
 use std::alloc::Global;
 use std::test::Fail;
+use test_input::examples::Step::{self, Text, View};
+use test_input::examples::{
+    Pieces, expect, expect_read_back_at_each_byte, feed, longest, read, read_keeping, taken,
+};
+use test_input::readback::Asked::{
+    self, Attributes, Cursor, Modes, Portable, Redraw, Reset, State,
+};
+use test_input::readback::{ASKED, Change};
 use vt_notes::Notes;
 use vt100::{Parser, Screen};
 

@@ -7,7 +7,7 @@ use vt100::{Color, DiffOptions, Error, RedrawOptions, Screen};
 
 /// A part of a screen's state, in which two screens of the same size can agree or differ.
 #[derive(Clone, Copy, PartialEq, Eq, Debug)]
-pub(crate) enum Part {
+pub enum Part {
     /// The cells with their attributes.
     Cells,
 
@@ -25,10 +25,10 @@ pub(crate) enum Part {
 }
 
 /// The parts of the state that make up the display.
-pub(crate) const PICTURE: [Part; 4] = [Part::Cells, Part::Flags, Part::Cursor, Part::Attributes];
+pub const PICTURE: [Part; 4] = [Part::Cells, Part::Flags, Part::Cursor, Part::Attributes];
 
 /// The parts of the state that make up the display, followed by the modes.
-pub(crate) const PARTS: [Part; 5] = [
+pub const PARTS: [Part; 5] = [
     Part::Cells,
     Part::Flags,
     Part::Cursor,
@@ -38,7 +38,7 @@ pub(crate) const PARTS: [Part; 5] = [
 
 impl Part {
     /// Returns whether two screens of the same size agree in this part of the state.
-    pub(crate) fn is_same(self, one: &Screen, other: &Screen) -> bool {
+    pub fn is_same(self, one: &Screen, other: &Screen) -> bool {
         match self {
             Part::Cells => have_same_cells(one, other, one.size().0.get()),
             Part::Flags => have_same_flags(one, other),
@@ -53,7 +53,7 @@ impl Part {
 }
 
 /// Returns whether the first `rows` rows of two screens have the same cells.
-pub(crate) fn have_same_cells(one: &Screen, other: &Screen, rows: u16) -> bool {
+pub fn have_same_cells(one: &Screen, other: &Screen, rows: u16) -> bool {
     let (_rows, cols) = one.size();
     for row in 0..rows {
         for col in 0..cols.get() {
@@ -115,7 +115,7 @@ const READ: [Pieces; 2] = [Pieces::Two(usize::MAX), Pieces::Single];
 
 /// A kind of output of a screen.
 #[derive(Clone, Copy, Debug)]
-pub(crate) enum Asked {
+pub enum Asked {
     /// The output of `contents_formatted`.
     Redraw,
 
@@ -144,7 +144,7 @@ pub(crate) enum Asked {
 }
 
 /// All kinds of output of a screen.
-pub(crate) const ASKED: [Asked; 8] = [
+pub const ASKED: [Asked; 8] = [
     Asked::Redraw,
     Asked::Portable,
     Asked::Cursor,
@@ -157,7 +157,7 @@ pub(crate) const ASKED: [Asked; 8] = [
 
 impl Asked {
     /// Returns the output of this kind for `screen`.
-    pub(crate) fn text(self, screen: &Screen) -> Result<String, Error> {
+    pub fn text(self, screen: &Screen) -> Result<String, Error> {
         match self {
             Asked::Redraw => screen.contents_formatted(),
             Asked::Portable => { screen.contents_formatted_with(RedrawOptions { portable: true }) }
@@ -172,7 +172,7 @@ impl Asked {
     /// Feeds the output of this kind for `screen` to a terminal. Fails if, afterward, the terminal
     /// does not agree with the screen in the parts that the output sets, has changed in a different
     /// part, or has invoked a callback.
-    pub(crate) fn expect_read(self, alloc: Global, screen: &Screen) -> Result<(), Fail> {
+    pub fn expect_read(self, alloc: Global, screen: &Screen) -> Result<(), Fail> {
         let text = self.text(screen)?;
         let before = self.read_before(alloc, screen)?;
         for pieces in &READ {
@@ -214,7 +214,7 @@ impl Asked {
 
 /// A kind of diff between two screens.
 #[derive(Clone, Copy, Debug)]
-pub(crate) enum Change {
+pub enum Change {
     /// The output of `contents_diff`.
     Picture,
 
@@ -234,7 +234,7 @@ pub(crate) enum Change {
 impl Change {
     /// Returns the diff of this kind from `prev` to `screen`. Fails if the two screens differ in
     /// size.
-    pub(crate) fn text(self, screen: &Screen, prev: &Screen) -> Result<String, Fail> {
+    pub fn text(self, screen: &Screen, prev: &Screen) -> Result<String, Fail> {
         let (rows, cols) = screen.size();
         let (other_rows, other_cols) = prev.size();
         if rows.get() != other_rows.get() || cols.get() != other_cols.get() {
@@ -253,7 +253,7 @@ impl Change {
     /// Feeds the diff `text` to a terminal with the display and modes of `prev`. Fails if,
     /// afterward, the terminal does not agree with `screen` in the parts that the diff sets, has
     /// changed in a different part, or has invoked a callback.
-    pub(crate) fn expect_read(
+    pub fn expect_read(
         self,
         alloc: Global,
         screen: &Screen,

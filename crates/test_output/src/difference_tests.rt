@@ -1,11 +1,11 @@
 //! Tests of diffs, with and without movements of rows and columns: their escape sequences, and the
 //! display of a terminal that parses them.
 
-use crate::examples::Step::{self, Text, View};
-use crate::examples::{Pieces, expect_read_back_at_each_byte, longest, taken};
-use crate::readback::Change;
 use std::alloc::Global;
 use std::test::Fail;
+use test_input::examples::Step::{self, Text, View};
+use test_input::examples::{Pieces, expect_read_back_at_each_byte, longest, taken};
+use test_input::readback::Change;
 use vt100::Screen;
 
 /// An example: a size, a scrollback capacity, the steps of two new parsers, and the escape

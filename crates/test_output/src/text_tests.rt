@@ -1,13 +1,13 @@
 //! Tests of the plain text of the screen, of ranges and of rows, and of redraws and diffs of single
 //! rows.
 
-use crate::examples::Step::{self, Resize, ResizeParser, Text, View};
-use crate::examples::{
-    Pieces, expect_read_back_at_each_byte, expect_text, longest, read_keeping, taken,
-};
-use crate::readback::have_same_cells;
 use std::alloc::Global;
 use std::test::Fail;
+use test_input::examples::Step::{self, Resize, ResizeParser, Text, View};
+use test_input::examples::{
+    Pieces, expect_read_back_at_each_byte, expect_text, longest, read_keeping, taken,
+};
+use test_input::readback::have_same_cells;
 use vt_notes::Notes;
 use vt100::{Error, Parser, Screen};
 

@@ -1,9 +1,9 @@
 //! Diffs in which runs of a character are written with REP (ECMA-48, 8.3.103).
 
 use crate::difference_tests::{Example, expect_at_each_cut};
-use crate::examples::Step::Text;
-use crate::readback::Change;
 use std::test::Fail;
+use test_input::examples::Step::Text;
+use test_input::readback::Change;
 use vt100::{DiffOptions, Repeat};
 
 /// REP for any character, and no movements of rows or columns.
