@@ -22,6 +22,13 @@ pub const REPEATING_ASCII: DiffOptions = DiffOptions {
     portable: false,
 };
 
+/// The options of a portable diff.
+pub const PORTABLE: DiffOptions = DiffOptions {
+    scroll: false,
+    repeat: Repeat::Never,
+    portable: true,
+};
+
 /// The total length in bytes of each kind of diff between the same screens.
 #[derive(Clone, Copy)]
 pub struct Lengths {

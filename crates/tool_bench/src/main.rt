@@ -15,7 +15,8 @@
 //! the first diff starts from a new screen.
 //!
 //! `tool_bench texts ROWS COLS CAPACITY EVERY FILE` prints the same diffs, redraws of the same
-//! screens, and what these screens display: see `bench/tmux`.
+//! screens, portable diffs and redraws, and what these screens display: see `bench/tmux` and
+//! `bench/terminals`.
 //!
 //! `tool_bench mirror WHAT CALL ROWS COLS CAPACITY VIEWERS EVERY FILE` feeds FILE to a mirror with
 //! many viewers: see `bench/mirrors`.

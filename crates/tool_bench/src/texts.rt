@@ -1,14 +1,15 @@
 //! The output of a screen for a second terminal, and what that terminal must display.
 
-use crate::lengths::{REPEATING, REPEATING_ASCII, Reading};
+use crate::lengths::{PORTABLE, REPEATING, REPEATING_ASCII, Reading};
 use anyhow::{Result, ensure};
 use std::alloc::{AllocError, Global};
-use vt100::{Cell, Color, Parser, Screen};
+use vt100::{Cell, Color, Parser, RedrawOptions, Screen};
 
-/// Prints a group of six texts after every `every` bytes and at the end of the input:
+/// Prints a group of eight texts after every `every` bytes and at the end of the input:
 /// `contents_formatted`; `contents_diff`, `contents_diff_scrolling`, and `contents_diff_with` with
 /// [`REPEATING_ASCII`] and with [`REPEATING`], from the screen of the previous group (for the first
-/// group, a new screen); and the display of the screen.
+/// group, a new screen); the portable redraw; the diff with [`PORTABLE`]; and the display of the
+/// screen.
 ///
 /// Each group begins with a line that contains the cursor's row and column, counted from 0, whether
 /// the cursor is hidden, and the length of each text in bytes. Each group ends with a newline.
@@ -31,14 +32,18 @@ fn show<R: AllocGlobal + Print>(rt: &R, screen: &Screen, prev: &Screen) -> Resul
     let scrolling = screen.contents_diff_scrolling(prev)?;
     let ascii = screen.contents_diff_with(prev, REPEATING_ASCII)?;
     let repeating = screen.contents_diff_with(prev, REPEATING)?;
+    let portable = screen.contents_formatted_with(RedrawOptions { portable: true })?;
+    let portable_diff = screen.contents_diff_with(prev, PORTABLE)?;
     let shown = shown(rt.alloc(), screen)?;
     let (row, col) = screen.cursor_position();
     let hidden = screen.hide_cursor();
     let (first, second) = (redraw.len(), drawn.len());
     let (third, fourth) = (scrolling.len(), ascii.len());
-    let (fifth, sixth) = (repeating.len(), shown.len());
-    println!(rt; "{row} {col} {hidden} {first} {second} {third} {fourth} {fifth} {sixth}")?;
-    println!(rt; "{redraw}{drawn}{scrolling}{ascii}{repeating}{shown}")?;
+    let (fifth, sixth) = (repeating.len(), portable.len());
+    let (seventh, eighth) = (portable_diff.len(), shown.len());
+    print!(rt; "{row} {col} {hidden} {first} {second} {third} {fourth} {fifth} {sixth} ")?;
+    println!(rt; "{seventh} {eighth}")?;
+    println!(rt; "{redraw}{drawn}{scrolling}{ascii}{repeating}{portable}{portable_diff}{shown}")?;
     Ok(())
 }
 
