@@ -35,7 +35,7 @@ const typed: string = (keyText(key, parser) ?? "") + pasteText("text", parser.st
 const press = { type: "mousedown", button: 0, buttons: 1, shiftKey: false, altKey: false, ctrlKey: false };
 const report: Uint8Array | null = mouseBytes(press, parser.cursor, parser.state);
 saved[Symbol.dispose]();
-console.log(cell?.text, color, diff, isBar, isScreen, text, size?.rows, typed, report);
+console.log(cell?.text, last?.text, whole.length, color, diff, isBar, isScreen, text, size?.rows, typed, report);
 
 // @ts-expect-error
 parser.process(7);

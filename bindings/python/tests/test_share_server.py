@@ -1,6 +1,7 @@
 """Tests of the connections of vt100.share: frames, compression, who is left out, and limits."""
 
 import asyncio
+import contextlib
 import struct
 import subprocess
 import unittest
@@ -222,8 +223,9 @@ class LeftOut(unittest.TestCase):
                 for number in range(5):
                     await writer.send(b"i%d" % number)
                     await writer.until(str(number))
-                with self.assertRaises(asyncio.TimeoutError):
-                    await asyncio.wait_for(other.next(), 0.2)
+                with contextlib.suppress(asyncio.TimeoutError):
+                    await asyncio.wait_for(other.until("0"), 0.2)
+                self.assertEqual(other.updates, 0)
                 connections[False].resume_writing()
                 await other.until("01234")
                 self.assertEqual(other.updates, 1)

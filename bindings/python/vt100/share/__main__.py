@@ -16,7 +16,7 @@ from typing import Callable, List, Optional, Tuple
 from .. import _terminfo
 from ._history import MAX_ROWS as MAX_SCROLLBACK
 from ._local import is_available
-from ._loop import run
+from ._loop import run as run_loop
 from ._messages import MAX_COLS, MAX_ROWS
 from ._play import BadRecording, Cast, Playback
 from ._program import Program
@@ -135,18 +135,18 @@ def _tokens(can_write: bool) -> Tokens:
 async def _run(options: argparse.Namespace) -> int:
     """Shares a program or a recording."""
     site = Site(page_files(options.page), options.host, options.public)
-    one = Run(options, not options.headless and is_available())
+    run = Run(options, not options.headless and is_available())
     cast = _cast(options.play) if options.play is not None else None
     if options.publish is not None:
-        await _prepare_publishing(options, one)
+        await _prepare_publishing(options, run)
     size = options.size or _own_size()
 
     def begin() -> Audience:
         if cast is not None:
-            return Playback(cast, options.speed, one.report, options.scrollback)
-        return _start(options, size, one.report)
+            return Playback(cast, options.speed, run.report, options.scrollback)
+        return _start(options, size, run.report)
 
-    return await one.run(site, _tokens(options.write), begin)
+    return await run.run(site, _tokens(options.write), begin)
 
 
 def _cast(path: str) -> Cast:
@@ -187,15 +187,15 @@ async def _redis(url: str, name: str) -> Redis:
     return redis
 
 
-async def _prepare_publishing(options: argparse.Namespace, one: Run) -> None:
+async def _prepare_publishing(options: argparse.Namespace, run: Run) -> None:
     redis = await _redis(options.publish, options.stream)
     token = (token_from(_RELAY_TOKEN) or new_token()) if options.write else None
     relay = "vt100-share relay"
     if token is not None:
         relay = f"{_RELAY_TOKEN}={token} {relay} --write"
     print(f"relay: {relay} --stream {shlex.quote(options.stream)} {redis.label}", flush=True)
-    one.publish = lambda share: Publisher(
-        share, redis, options.stream, one.report, token, options.linger
+    run.publish = lambda share: Publisher(
+        share, redis, options.stream, run.report, token, options.linger
     )
 
 
@@ -205,10 +205,10 @@ async def _run_relay(options: argparse.Namespace) -> int:
     token = token_from(_RELAY_TOKEN) if options.write else None
     if options.write and token is None:
         raise Fault(f"--write requires ${_RELAY_TOKEN}, the token that the server has printed")
-    one = Run(options, is_shown=False)
+    run = Run(options, is_shown=False)
     redis = await _redis(options.url, options.stream)
-    return await one.run(
-        site, _tokens(options.write), lambda: Relay(redis, options.stream, one.report, token)
+    return await run.run(
+        site, _tokens(options.write), lambda: Relay(redis, options.stream, run.report, token)
     )
 
 
@@ -218,7 +218,7 @@ def main(given: Optional[List[str]] = None) -> int:
     is_relay = words[:1] == ["relay"]
     options = _relay_arguments(words[1:]) if is_relay else _arguments(words)
     try:
-        return run(_run_relay(options) if is_relay else _run(options))
+        return run_loop(_run_relay(options) if is_relay else _run(options))
     except (BadAddress, BadToken, Fault, Missing, NoLibrary) as fault:
         say(str(fault))
         return 2

@@ -42,8 +42,8 @@ MAX_ROWS, MAX_COLS = 500, 1000
 
 _SIZE = struct.Struct(">HH")
 _COUNT = struct.Struct(">I")
-_COUNTS = struct.Struct(">II")
 _ROWS = struct.Struct(">IH")
+_COUNTS = struct.Struct(">II")
 COUNT_MODULUS = 1 << 32
 
 

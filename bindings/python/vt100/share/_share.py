@@ -111,8 +111,8 @@ class Audience:
         if viewer in self._viewers:
             del self._viewers[viewer]
             self._typists.pop(viewer, None)
-            self._writer_count -= viewer.may_write
             self._rows.remove(viewer)
+            self._writer_count -= viewer.may_write
             self._count()
 
     def _is_current(self, viewer: Viewer) -> bool:
@@ -277,8 +277,7 @@ class Share(Audience):
         recording: Optional[Recording] = None,
         scrollback: int = 0,
     ) -> None:
-        queries = Queries(self.type, self.set_title)
-        super().__init__(Cohort(rows, cols, queries, scrollback))
+        super().__init__(Cohort(rows, cols, Queries(self.type, self.set_title), scrollback))
         self._program = program
         self._recording = recording
         self._loop.add_reader(program.file, self._read)
