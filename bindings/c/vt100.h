@@ -431,6 +431,19 @@ vt100_status vt100_contents_formatted(vt100_handle *handle, size_t *len);
 vt100_status vt100_contents_formatted_reset(vt100_handle *handle, size_t *len);
 
 /*
+ * An option of redraws and diffs: the output avoids sequences on whose effects real terminals
+ * disagree. It changes between bold and dim only after a reset, moves the cursor from the last
+ * column only to an absolute position, and erases a wide glyph only as a whole.
+ */
+#define VT100_PORTABLE 8
+
+/*
+ * Generates the redraw of vt100_contents_formatted or, with the option VT100_PORTABLE, its portable
+ * form. Other bits are ignored.
+ */
+vt100_status vt100_contents_formatted_with(vt100_handle *handle, uint8_t options, size_t *len);
+
+/*
  * Generates the text of the displayed rows with SGR sequences for colors and attributes, and
  * without other escape sequences. Each row ends with a newline, unless it is wrapped or is the last
  * one.
@@ -505,8 +518,8 @@ vt100_status vt100_contents_diff(vt100_handle *handle, vt100_handle *prev, size_
 vt100_status vt100_contents_diff_scrolling(vt100_handle *handle, vt100_handle *prev, size_t *len);
 
 /*
- * Options of a diff, which can be combined with `|`; other bits are ignored. VT100_DIFF_SCROLL: the
- * diff may begin by moving rows or columns. VT100_DIFF_REPEAT: runs of a one-column character within
+ * Options of a diff, which can be combined with `|` and with VT100_PORTABLE; other bits are ignored.
+ * VT100_DIFF_SCROLL: the diff may begin by moving rows or columns. VT100_DIFF_REPEAT: runs of a one-column character within
  * a row may be written with REP (ECMA-48, 8.3.103). VT100_DIFF_REPEAT_ASCII: runs of a printable
  * ASCII character may be, but no other runs; it has no effect with VT100_DIFF_REPEAT. Some terminals
  * ignore REP, and tmux 3.3a performs it only after ASCII characters.
@@ -516,9 +529,10 @@ vt100_status vt100_contents_diff_scrolling(vt100_handle *handle, vt100_handle *p
 #define VT100_DIFF_REPEAT_ASCII 4
 
 /*
- * Generates a diff with options, which is never longer than that of vt100_contents_diff. Without
- * VT100_DIFF_REPEAT and VT100_DIFF_REPEAT_ASCII, it is the diff of vt100_contents_diff or, with
- * VT100_DIFF_SCROLL, of vt100_contents_diff_scrolling.
+ * Generates a diff with options, which is never longer than that of vt100_contents_diff or, with
+ * VT100_PORTABLE, than its portable form. Without VT100_DIFF_REPEAT and VT100_DIFF_REPEAT_ASCII, it
+ * is the diff of vt100_contents_diff or, with VT100_DIFF_SCROLL, of vt100_contents_diff_scrolling; a
+ * portable diff moves no rows or columns.
  * Statuses: as for vt100_contents_diff.
  */
 vt100_status vt100_contents_diff_with(vt100_handle *handle, vt100_handle *prev, uint8_t options,
@@ -718,7 +732,7 @@ vt100_status vt100_update_scrolling(vt100_handle *mirror, uint64_t viewer, uint1
 
 /*
  * Works like vt100_update, but a diff has the given options (see VT100_DIFF_SCROLL), and is never
- * longer than that of vt100_update. With VT100_DIFF_SCROLL, the update may be a redraw, as with
+ * longer than that of vt100_update. VT100_PORTABLE is ignored. With VT100_DIFF_SCROLL, the update may be a redraw, as with
  * vt100_update_scrolling.
  */
 vt100_status vt100_update_with(vt100_handle *mirror, uint64_t viewer, uint8_t options,

@@ -180,7 +180,15 @@ export declare class Vt100Error extends Error {
 export declare const Repeat: { readonly NEVER: 0; readonly ASCII: 4; readonly ANY: 2 };
 export type Repeat = (typeof Repeat)[keyof typeof Repeat];
 
-export interface DiffOptions {
+export interface RedrawOptions {
+  /** Whether the output avoids sequences on whose effects real terminals disagree: it changes between bold and dim only
+      after a reset, moves the cursor from the last column only to an absolute position, and erases a wide glyph only as
+      a whole. */
+  portable?: boolean;
+}
+
+/** Updates of a mirror ignore `portable`, and a portable diff moves no rows or columns. */
+export interface DiffOptions extends RedrawOptions {
   /** Whether a diff may begin by moving rows or columns. */
   scroll?: boolean;
   /** Which runs within a row may be written with REP. Some terminals ignore REP. */
@@ -251,6 +259,8 @@ export interface Screen extends Handle, Properties {
 
   /** Returns a redraw: the escape sequences that make any plain terminal of this size display this screen. */
   contentsFormatted(): string;
+  /** Returns the redraw of contentsFormatted, or its portable form. */
+  contentsFormattedWith(options?: RedrawOptions): string;
   /** Returns a redraw for terminals of this size that may have any scroll region and origin mode. */
   contentsFormattedReset(): string;
   /** Returns the text of the displayed rows with SGR sequences for colors and attributes, and no other sequences. */
@@ -274,7 +284,8 @@ export interface Screen extends Handle, Properties {
   /** Returns a diff that may begin by moving rows or columns, and is never longer than that of contentsDiff, or than
       the redraw. The tty must not translate output, and the tab stops must be at every eighth column. */
   contentsDiffScrolling(prev: Screen): string;
-  /** Returns a diff with options, which is never longer than that of contentsDiff. */
+  /** Returns a diff with options, which is never longer than that of contentsDiff or, if it is portable, than its
+      portable form. */
   contentsDiffWith(prev: Screen, options?: DiffOptions): string;
   /** Returns contentsDiff followed by inputModeDiff. */
   stateDiff(prev: Screen): string;

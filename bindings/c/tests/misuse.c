@@ -69,6 +69,9 @@ static vt100_status between(vt100_handle *h) {
     return vt100_contents_between(h, 0, COLS, 2, COLS, &len);
 }
 static vt100_status formatted(vt100_handle *h) { return vt100_contents_formatted(h, &len); }
+static vt100_status portable(vt100_handle *h) {
+    return vt100_contents_formatted_with(h, VT100_PORTABLE, &len);
+}
 static vt100_status reset(vt100_handle *h) { return vt100_contents_formatted_reset(h, &len); }
 static vt100_status basic(vt100_handle *h) { return vt100_contents_formatted_basic(h, &len); }
 static vt100_status all(vt100_handle *h) { return vt100_state_formatted(h, &len); }
@@ -130,7 +133,8 @@ static const struct {
     {"get_cell", get_cell, P | S}, {"get_cells", get_cells, P | S},
     {"get_all_cells", get_all_cells, P | S}, {"row_wrapped", wrapped, P | S},
     {"contents", contents, P | S}, {"contents_between", between, P | S},
-    {"contents_formatted", formatted, P | S}, {"contents_formatted_reset", reset, P | S},
+    {"contents_formatted", formatted, P | S}, {"contents_formatted_with", portable, P | S},
+    {"contents_formatted_reset", reset, P | S},
     {"contents_formatted_basic", basic, P | S}, {"state_formatted", all, P | S},
     {"cursor_state_formatted", cursor, P | S}, {"attributes_formatted", attributes, P | S},
     {"input_mode_formatted", input, P | S}, {"rows", plain_rows, P | S},

@@ -241,7 +241,7 @@ static void repeated_ascii(void) {
         {VT100_DIFF_REPEAT_ASCII, "-\x1b[9b\r\n\xe2\x94\x80\xe2\x94\x80\xe2\x94\x80\xe2\x94\x80"},
         {VT100_DIFF_REPEAT, "-\x1b[9b\r\n\xe2\x94\x80\x1b[3b"},
         {VT100_DIFF_REPEAT | VT100_DIFF_REPEAT_ASCII, "-\x1b[9b\r\n\xe2\x94\x80\x1b[3b"},
-        {0xf8, "----------\r\n\xe2\x94\x80\xe2\x94\x80\xe2\x94\x80\xe2\x94\x80"},
+        {0xf0, "----------\r\n\xe2\x94\x80\xe2\x94\x80\xe2\x94\x80\xe2\x94\x80"},
     };
     vt100_handle parser = VT100_EMPTY, before = VT100_EMPTY;
     size_t len;
@@ -254,6 +254,37 @@ static void repeated_ascii(void) {
     }
     vt100_free(&before);
     vt100_free(&parser);
+}
+
+/* Portable output resets the attributes between dim and bold, and moves to an absolute position. */
+static void portable(void) {
+    static const struct {
+        const char *input, *redraw, *portable;
+    } screens[] = {
+        {"\x1b[2ma\x1b[22;1mb", "\x1b[2ma\x1b[1mb", "\x1b[2ma\x1b[m\x1b[1mb"},
+        {"abcd\r\nxxxxx\x1b[A", "abcd\r\nxxxxx\x1b[1;5H \x1b""7\b\x1b[X\x1b""8",
+         "abcd\r\nxxxxx\x1b[1;5H \x1b""7\x1b[1;5H\x1b[X\x1b""8"},
+    };
+    for (size_t i = 0; i < sizeof screens / sizeof *screens; i++) {
+        vt100_handle parser = VT100_EMPTY, before = VT100_EMPTY;
+        size_t len;
+        char text[64];
+        must(vt100_parser_new(2, 5, 0, 0, &parser) == VT100_OK);
+        must(vt100_save(&parser, &before) == VT100_OK);
+        read_into(&parser, screens[i].input);
+        must(vt100_contents_diff_with(&parser, &before, VT100_PORTABLE, &len) == VT100_OK);
+        must(is_text(&parser, len, screens[i].portable));
+        must(vt100_contents_diff_with(&parser, &before, 0, &len) == VT100_OK);
+        must(is_text(&parser, len, screens[i].redraw));
+        snprintf(text, sizeof text, "\x1b[?25h\x1b[m\x1b[H\x1b[J%s", screens[i].portable);
+        must(vt100_contents_formatted_with(&parser, VT100_PORTABLE, &len) == VT100_OK);
+        must(is_text(&parser, len, text));
+        snprintf(text, sizeof text, "\x1b[?25h\x1b[m\x1b[H\x1b[J%s", screens[i].redraw);
+        must(vt100_contents_formatted_with(&parser, 0xf7, &len) == VT100_OK);
+        must(is_text(&parser, len, text));
+        vt100_free(&before);
+        vt100_free(&parser);
+    }
 }
 
 /*
@@ -319,6 +350,7 @@ int main(void) {
     viewers();
     repeated();
     repeated_ascii();
+    portable();
     pending();
     terminals();
     version();

@@ -3,7 +3,7 @@
 import { inU16, isU16, rowCount, sizeInRange } from "./errors.js";
 import { Handle } from "./handle.js";
 import { textOf, wordOf } from "./instance.js";
-import { diffOptions } from "./options.js";
+import { diffOptions, redrawOptions } from "./options.js";
 import { CELL_SIZE, Cell, PROPERTIES, STATE_SIZE, cellsOf, stateOf } from "./records.js";
 
 const BAD_ARGUMENT = 3;
@@ -173,6 +173,10 @@ export class Screen extends Handle {
 
   contentsFormatted() {
     return this.#textBy("vt100_contents_formatted");
+  }
+
+  contentsFormattedWith(options) {
+    return this.#textBy("vt100_contents_formatted_with", redrawOptions(options));
   }
 
   contentsFormattedReset() {

@@ -193,6 +193,26 @@ test("runs are repeated if the options allow it", () => {
   }
 });
 
+test("portable output", () => {
+  for (const [data, text, portable] of [
+    ["\x1b[2ma\x1b[22;1mb", "\x1b[2ma\x1b[1mb", "\x1b[2ma\x1b[m\x1b[1mb"],
+    [
+      "abcd\r\nxxxxx\x1b[A",
+      "abcd\r\nxxxxx\x1b[1;5H \x1b7\b\x1b[X\x1b8",
+      "abcd\r\nxxxxx\x1b[1;5H \x1b7\x1b[1;5H\x1b[X\x1b8",
+    ],
+  ]) {
+    const parser = screenOf("", 2, 5);
+    const before = parser.save();
+    parser.process(data);
+    const clear = "\x1b[?25h\x1b[m\x1b[H\x1b[J";
+    assert.equal(parser.contentsFormattedWith(), clear + text);
+    assert.equal(parser.contentsFormattedWith({ portable: true }), clear + portable);
+    assert.equal(parser.contentsDiffWith(before), text);
+    assert.equal(parser.contentsDiffWith(before, { portable: true }), portable);
+  }
+});
+
 test("parts of a redraw", () => {
   const screen = screenOf("\x1b[1;31mab\x1b[2;3H\x1b[?25l\x1b[?1h");
   const target = screenOf("ab");

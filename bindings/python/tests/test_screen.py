@@ -262,6 +262,24 @@ class Texts(unittest.TestCase):
         self.assertEqual(parser.contents_diff_with(before), parser.contents_diff(before))
         self.assertEqual(parser.contents_diff_with(before, scroll=True), "----------\r\n────")
 
+    def test_portable_output(self):
+        for data, text, portable in (
+            (b"\x1b[2ma\x1b[22;1mb", "\x1b[2ma\x1b[1mb", "\x1b[2ma\x1b[m\x1b[1mb"),
+            (
+                b"abcd\r\nxxxxx\x1b[A",
+                "abcd\r\nxxxxx\x1b[1;5H \x1b7\x08\x1b[X\x1b8",
+                "abcd\r\nxxxxx\x1b[1;5H \x1b7\x1b[1;5H\x1b[X\x1b8",
+            ),
+        ):
+            parser = screen_of(b"", 2, 5)
+            before = parser.save()
+            parser.process(data)
+            clear = "\x1b[?25h\x1b[m\x1b[H\x1b[J"
+            self.assertEqual(parser.contents_formatted(), clear + text)
+            self.assertEqual(parser.contents_formatted(portable=True), clear + portable)
+            self.assertEqual(parser.contents_diff_with(before), text)
+            self.assertEqual(parser.contents_diff_with(before, portable=True), portable)
+
     def test_the_whole_state_is_drawn(self):
         modes = b"\x1b[?1h\x1b=\x1b[?2004h\x1b[?1002h\x1b[?1006h\x1b[5 q"
         screen = screen_of(modes + b"\x1b[1;31mab\x1b[2;3H")

@@ -141,7 +141,6 @@ def _arguments() -> Dict[str, List[Any]]:
     }
     for name in (
         "contents",
-        "contents_formatted",
         "contents_formatted_basic",
         "contents_formatted_reset",
         "state_formatted",
@@ -152,6 +151,7 @@ def _arguments() -> Dict[str, List[Any]]:
         arguments[name] = [handle, length]
     for name in ("contents_diff", "contents_diff_scrolling", "state_diff", "input_mode_diff"):
         arguments[name] = [handle, handle, length]
+    arguments["contents_formatted_with"] = [handle, ctypes.c_uint8, length]
     arguments["contents_diff_with"] = [handle, handle, ctypes.c_uint8, length]
     for name in ("update", "update_scrolling"):
         arguments[name] = [handle, u64, side, side, length]

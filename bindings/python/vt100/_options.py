@@ -1,8 +1,10 @@
-"""The options of diffs."""
+"""The options of redraws and diffs."""
 
 from __future__ import annotations
 
 import enum
+
+_PORTABLE = 8
 
 
 class Repeat(enum.Enum):
@@ -17,9 +19,14 @@ class Repeat(enum.Enum):
     ANY = 2
 
 
-def diff_options(scroll: bool, repeat: Repeat) -> int:
+def redraw_options(portable: bool) -> int:
+    """Returns the bits that the library expects for the options of a redraw."""
+    return _PORTABLE if portable else 0
+
+
+def diff_options(scroll: bool, repeat: Repeat, portable: bool = False) -> int:
     """Returns the bits that the library expects for the options of a diff. Raises `TypeError` if
     `repeat` is not a `Repeat`."""
     if not isinstance(repeat, Repeat):
         raise TypeError(f"repeat must be a Repeat, not {repeat!r}")
-    return int(bool(scroll)) | repeat.value
+    return int(bool(scroll)) | repeat.value | redraw_options(portable)

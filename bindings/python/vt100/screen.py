@@ -31,7 +31,7 @@ from ._library import (
     library,
     size_in_range,
 )
-from ._options import Repeat, diff_options
+from ._options import Repeat, diff_options, redraw_options
 from ._state import HasState
 
 _Index = SupportsIndex
@@ -283,15 +283,19 @@ class Screen(HasState):
 
     # Redraws and diffs
 
-    def contents_formatted(self) -> str:
+    def contents_formatted(self, *, portable: bool = False) -> str:
         """Returns a redraw: the escape sequences that make any plain terminal of this size display
         this screen.
 
         A terminal is plain if its scroll region is the whole page, origin mode is off, no
         scrollback is displayed and no sequence is unfinished; every new terminal is plain. If this
         screen is steady (see `is_steady`), the terminal then displays exactly this screen.
+
+        With `portable`, the output avoids sequences on whose effects real terminals disagree: it
+        changes between bold and dim only after a reset, moves the cursor from the last column only
+        to an absolute position, and erases a wide glyph only as a whole.
         """
-        return self._text(library.vt100_contents_formatted)
+        return self._text(library.vt100_contents_formatted_with, redraw_options(portable))
 
     def contents_formatted_reset(self) -> str:
         """Returns a redraw for terminals of this size that need not be plain: they may have any
@@ -337,13 +341,20 @@ class Screen(HasState):
         return self._diff(library.vt100_contents_diff_scrolling, prev)
 
     def contents_diff_with(
-        self, prev: Screen, *, scroll: bool = False, repeat: Repeat = Repeat.NEVER
+        self,
+        prev: Screen,
+        *,
+        scroll: bool = False,
+        repeat: Repeat = Repeat.NEVER,
+        portable: bool = False,
     ) -> str:
-        """Returns a diff with options, which is never longer than that of `contents_diff`. With
-        `scroll`, it may begin by moving rows or columns. Runs within a row of the one-column
+        """Returns a diff with options, which is never longer than that of `contents_diff` or, with
+        `portable`, than its portable form (see `contents_formatted`). With `scroll`, it may begin
+        by moving rows or columns, unless it is portable. Runs within a row of the one-column
         characters that `repeat` allows may be written with REP (ECMA-48, 8.3.103); some terminals
         ignore REP."""
-        return self._diff(library.vt100_contents_diff_with, prev, diff_options(scroll, repeat))
+        options = diff_options(scroll, repeat, portable)
+        return self._diff(library.vt100_contents_diff_with, prev, options)
 
     def state_diff(self, prev: Screen) -> str:
         """Returns the escape sequences that turn the display and the input modes of `prev` into

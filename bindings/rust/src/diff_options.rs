@@ -1,3 +1,4 @@
+use crate::redraw_options::PORTABLE;
 use crate::repeat::Repeat;
 
 /// Options that allow a diff to contain more than
@@ -11,6 +12,10 @@ pub struct DiffOptions {
     /// The characters whose runs within a row may be written with REP (ECMA-48, 8.3.103). Some
     /// terminals ignore REP.
     pub repeat: Repeat,
+
+    /// Whether the diff avoids sequences on whose effects real terminals disagree. A portable diff
+    /// moves no rows or columns, whatever `scroll` is. Updates of a mirror ignore this option.
+    pub portable: bool,
 }
 
 impl DiffOptions {
@@ -21,6 +26,6 @@ impl DiffOptions {
             Repeat::Any => 2,
             Repeat::Ascii => 4,
         };
-        u8::from(self.scroll) | repeat
+        u8::from(self.scroll) | repeat | if self.portable { PORTABLE } else { 0 }
     }
 }

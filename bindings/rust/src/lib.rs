@@ -3,7 +3,8 @@
 //! a diff from an earlier screen.
 //!
 //! The items are those of the crate `vt100` 0.18.1, with the addition of [`mirror`],
-//! [`DiffOptions`], [`Repeat`], [`Parser::pending_len`], [`Screen::contents_diff_scrolling`],
+//! [`DiffOptions`], [`RedrawOptions`], [`Repeat`], [`Parser::pending_len`],
+//! [`Screen::contents_formatted_with`], [`Screen::contents_diff_scrolling`],
 //! [`Screen::contents_diff_with`], [`Screen::is_steady`], [`Screen::shown_copy`],
 //! [`TERMINAL_SETUP`] and [`TERMINAL_RESTORE`]. This crate wraps a formally verified library.
 //!
@@ -54,6 +55,7 @@ mod library;
 pub mod mirror;
 mod modes;
 mod parser;
+mod redraw_options;
 mod repeat;
 mod screen;
 mod terminal;
@@ -65,6 +67,7 @@ pub use color::Color;
 pub use diff_options::DiffOptions;
 pub use modes::{CursorStyle, MouseProtocolEncoding, MouseProtocolMode};
 pub use parser::Parser;
+pub use redraw_options::RedrawOptions;
 pub use repeat::Repeat;
 pub use screen::Screen;
 pub use terminal::{TERMINAL_RESTORE, TERMINAL_SETUP};

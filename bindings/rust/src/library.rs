@@ -13,6 +13,7 @@
 //!   the layout of a [`Cell`].
 
 use crate::diff_options::DiffOptions;
+use crate::redraw_options::RedrawOptions;
 
 /// Defines structs with the layout of the header.
 macro_rules! structs {
@@ -106,6 +107,7 @@ extern "C" {
         len: *mut usize,
     ) -> u8;
     fn vt100_contents_formatted(handle: *mut Handle, len: *mut usize) -> u8;
+    fn vt100_contents_formatted_with(handle: *mut Handle, options: u8, len: *mut usize) -> u8;
     fn vt100_contents_formatted_basic(handle: *mut Handle, len: *mut usize) -> u8;
     fn vt100_state_formatted(handle: *mut Handle, len: *mut usize) -> u8;
     fn vt100_cursor_state_formatted(handle: *mut Handle, len: *mut usize) -> u8;
@@ -437,6 +439,13 @@ impl Handle {
     pub fn between(&mut self, start: (u16, u16), end: (u16, u16)) -> String {
         let mut len = 0;
         check(unsafe { vt100_contents_between(self, start.0, start.1, end.0, end.1, &mut len) });
+        self.copied(len)
+    }
+
+    /// Returns the redraw with options.
+    pub fn redraw_with(&mut self, options: RedrawOptions) -> String {
+        let mut len = 0;
+        check(unsafe { vt100_contents_formatted_with(self, options.bits(), &mut len) });
         self.copied(len)
     }
 

@@ -3,6 +3,7 @@
 use crate::capture::BasicFormattedCaptureRange;
 use crate::diff_options::DiffOptions;
 use crate::library::{Difference, Handle, RowTexts, Text};
+use crate::redraw_options::RedrawOptions;
 use crate::Screen;
 use std::fmt;
 
@@ -133,8 +134,15 @@ impl Screen {
             .unwrap_or_else(|| self.contents_formatted())
     }
 
+    /// Returns the redraw of [`contents_formatted`](Self::contents_formatted), or its portable form.
+    /// Not in the crate `vt100`.
+    #[must_use]
+    pub fn contents_formatted_with(&self, options: RedrawOptions) -> String {
+        self.lock().redraw_with(options)
+    }
+
     /// Returns a diff with options, which is never longer than that of
-    /// [`contents_diff`](Self::contents_diff). If the sizes differ, returns the redraw instead. Not
+    /// [`contents_diff`](Self::contents_diff) or, if it is portable, than its portable form. If the sizes differ, returns the redraw instead. Not
     /// in the crate `vt100`.
     #[must_use]
     pub fn contents_diff_with(&self, prev: &Self, options: DiffOptions) -> String {

@@ -2,7 +2,7 @@
 
 use std::num::NonZeroU16;
 use vt100::mirror::{Mirror, Update};
-use vt100::{DiffOptions, Parser, Repeat};
+use vt100::{DiffOptions, Parser, RedrawOptions, Repeat};
 
 fn size(number: u16) -> NonZeroU16 {
     NonZeroU16::new(number).unwrap()
@@ -69,8 +69,8 @@ fn only_ascii_characters_are_repeated_if_the_options_say_so() {
     parser.process("----------\r\n\u{2500}\u{2500}\u{2500}\u{2500}".as_bytes());
     let diff = |repeat| {
         let options = DiffOptions {
-            scroll: false,
             repeat,
+            ..DiffOptions::default()
         };
         parser.screen().contents_diff_with(&before, options)
     };
@@ -86,6 +86,42 @@ fn only_ascii_characters_are_repeated_if_the_options_say_so() {
 }
 
 #[test]
+fn portable_output_avoids_what_terminals_disagree_on() {
+    let clear = "\x1b[?25h\x1b[m\x1b[H\x1b[J";
+    for (input, text, portable) in [
+        (
+            "\x1b[2ma\x1b[22;1mb",
+            "\x1b[2ma\x1b[1mb",
+            "\x1b[2ma\x1b[m\x1b[1mb",
+        ),
+        (
+            "abcd\r\nxxxxx\x1b[A",
+            "abcd\r\nxxxxx\x1b[1;5H \x1b7\x08\x1b[X\x1b8",
+            "abcd\r\nxxxxx\x1b[1;5H \x1b7\x1b[1;5H\x1b[X\x1b8",
+        ),
+    ] {
+        let mut parser = Parser::new(size(2), size(5), 0);
+        let before = parser.screen().clone();
+        parser.process(input.as_bytes());
+        let screen = parser.screen();
+        for (is_portable, wanted) in [(false, text), (true, portable)] {
+            let options = DiffOptions {
+                portable: is_portable,
+                ..DiffOptions::default()
+            };
+            assert_eq!(screen.contents_diff_with(&before, options), wanted);
+            let options = RedrawOptions {
+                portable: is_portable,
+            };
+            assert_eq!(
+                screen.contents_formatted_with(options),
+                format!("{clear}{wanted}")
+            );
+        }
+    }
+}
+
+#[test]
 fn rows_move_and_runs_are_repeated() {
     let mut parser = Parser::new(size(4), size(10), 0);
     parser.process(b"aaaaaaaaa\r\nbbbbbbbbb\r\nccccccccc\r\nddddddddd");
@@ -94,6 +130,7 @@ fn rows_move_and_runs_are_repeated() {
     let both = DiffOptions {
         scroll: true,
         repeat: Repeat::Ascii,
+        portable: false,
     };
     assert_eq!(
         parser.screen().contents_diff_with(&before, both),

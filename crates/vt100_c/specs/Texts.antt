@@ -1,5 +1,5 @@
 -- The text or output that each call generates.
-use Rattle.std.specs.Prelude.{◌≡◌, ◌<◌, ◌≤◌, ◌/◌, ◌%◌, ◌==◌, ℕ, IsTrue, List, [], Option, length, if◌then◌else◌, false}
+use Rattle.std.specs.Prelude.{◌≡◌, ◌<◌, ◌≤◌, ◌/◌, ◌%◌, ◌==◌, ℕ, IsTrue, List, [], Option, length, if◌then◌else◌}
 use Rattle.vt_cells.specs.Op.{bytes_of_all}
 use Rattle.vt_redraw.specs.Redraw.{cursor_state, difference, redraw}
 use Rattle.vt_rows.specs.Basic.{nothing_written}
@@ -10,6 +10,7 @@ use Rattle.vt_screen.specs.Contents.{between_of, contents_of}
 use Rattle.vt_screen.specs.Diffs.{IsDiffWith, KeepsScreensPlain, RepeatsOnlyInRows, diff_controls, finals_with}
 use Rattle.vt_screen.specs.Diffs.{form_with, may_move}
 use Rattle.vt_screen.specs.declared.diff_options.DiffOptions.{DiffOptions}
+use Rattle.vt_screen.specs.declared.redraw_options.RedrawOptions.{RedrawOptions}
 use Rattle.vt_screen.specs.declared.repeat.Repeat.{Repeat}
 use Rattle.vt_screen.specs.declared.repeat.Repeat.TheVariants.{Never, Ascii, Any}
 use Rattle.vt_screen.specs.InputTexts.{input_change, input_text}
@@ -17,7 +18,7 @@ use Rattle.vt_screen.specs.MadeOf.{IsMadeOf, shortened_controls, shortened_final
 use Rattle.vt_screen.specs.Screen.{ScreenValue, visible_rows}
 use Rattle.vt_screen.specs.ShortMoves.{IsMovingOrRedraw}
 use Rattle.vt_screen.specs.Shown.{IsSameIfEmpty, RedrawsFrom, attributes_text, display, display_change_in}
-use Rattle.vt_screen.specs.Shown.{shown_text}
+use Rattle.vt_screen.specs.Shown.{form_of, shown_text, shown_text_in}
 use Rattle.vt_screen.specs.States.{state_change, state_text}
 use Rattle.vt100_c.specs.Due.{HoldBoth, HoldsScreen, any_screen, any_screens, sizes_status, source_at, start_status, text_at}
 use Rattle.vt100_c.specs.Status.{ok, out_of_memory}
@@ -34,6 +35,7 @@ text_of text.Contents screen = contents_of screen
 text_of (text.Between start_row start_col end_row end_col) screen =
     between_of start_row start_col end_row end_col screen
 text_of text.Formatted screen = bytes_of_all (redraw (display screen))
+text_of (text.FormattedWith options) screen = shown_text_in (form_of options.portable) screen
 text_of text.FormattedReset screen = reset_text (display screen)
 text_of text.FormattedBasic screen = basic_texts nothing_written (visible_rows screen)
 text_of text.State screen = state_text screen
@@ -69,9 +71,14 @@ pub record IsScrollingDiff (screen prev : ScreenValue) (text : List ℕ) : Type 
 abbrev pub repeat_of : ℕ → Repeat
 repeat_of bits = if bits / 2 % 2 == 1 then Any else (if bits / 4 % 2 == 1 then Ascii else Never)
 
--- The options that the bits of a number select: bit 0 allows moving rows or columns, and bits 1 and 2 allow REP.
+-- The options that the bits of a number select: bit 0 allows moving rows or columns, bits 1 and 2 allow REP, and bit 3
+-- makes the diff portable.
 abbrev pub options_of : ℕ → DiffOptions
-options_of bits = record { scroll = bits % 2 == 1; repeat = repeat_of bits; portable = false }
+options_of bits = record { scroll = bits % 2 == 1; repeat = repeat_of bits; portable = bits / 8 % 2 == 1 }
+
+-- The options for a redraw that the bits of a number select: bit 3 makes the redraw portable.
+abbrev pub redraw_options_of : ℕ → RedrawOptions
+redraw_options_of bits = record { portable = bits / 8 % 2 == 1 }
 
 -- The text is a diff from the display of `prev` to the display of `screen` with the given options. A plain terminal that
 -- displays `prev` and reads the text displays `screen`, if that screen is steady. The text is never longer than the diff

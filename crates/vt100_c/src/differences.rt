@@ -65,9 +65,9 @@ pub extern "C" fn vt100_contents_diff_scrolling(
 
 /// Generates the escape sequences that turn the display of `prev` into that of `handle`'s screen,
 /// with options ([`vt100::Screen::contents_diff_with`]). Bit 0 of `options` allows the output to
-/// begin by moving rows or columns, bit 1 allows REP, and bit 2 allows REP for printable ASCII
-/// characters only; the other bits are ignored. Stores the output in `handle` and its length in
-/// `len`.
+/// begin by moving rows or columns, bit 1 allows REP, bit 2 allows REP for printable ASCII
+/// characters only, and bit 3 makes the output portable; the other bits are ignored. Stores the
+/// output in `handle` and its length in `len`.
 ///
 /// # Errors
 ///

@@ -9,12 +9,13 @@ ghost use Rattle.vt100_c.specs.Due.{IsAnswer, IsSomeAnd, OnBoth, any_screens, du
 ghost use Rattle.vt100_c.specs.Due.{same_size, sizes_status, status_in};
 ghost use Rattle.vt100_c.specs.Sources.{screen_in};
 ghost use Rattle.vt100_c.specs.Status.{ok, out_of_memory};
-ghost use Rattle.vt100_c.specs.Texts.{HasDifference, HasText, IsDifference, due_for, due_for_both, options_of, repeat_of, text_of};
+ghost use Rattle.vt100_c.specs.Texts.{HasDifference, HasText, IsDifference, due_for, due_for_both, options_of};
+ghost use Rattle.vt100_c.specs.Texts.{redraw_options_of, repeat_of, text_of};
 ghost use Rattle.vt100_c.specs.declared.output.Difference.TheVariants as between;
 
 use crate::object::{Source, screen_of};
 use crate::status::{BAD_ARGUMENT, OK, OTHER_SIZE, OUT_OF_MEMORY, WRONG_KIND};
-use vt100::{DiffOptions, Error, Repeat, Screen};
+use vt100::{DiffOptions, Error, RedrawOptions, Repeat, Screen};
 
 /// A kind of text or escape sequences that can be generated from a screen.
 #[derive(Clone, Copy)]
@@ -28,6 +29,9 @@ pub enum Text {
 
     /// The escape sequences that redraw the screen.
     Formatted,
+
+    /// The escape sequences that redraw the screen, generated with the given options.
+    FormattedWith(RedrawOptions),
 
     /// The escape sequences that redraw the screen on a terminal, whatever its
     /// scroll region and origin mode are.
@@ -106,6 +110,7 @@ fn text_of(screen: &Screen, text: Text) -> Result<String, u8>
             between(screen, (start_row, start_col), (end_row, end_col))
         }
         Text::Formatted => or_status(screen.contents_formatted()),
+        Text::FormattedWith(options) => or_status(screen.contents_formatted_with(options)),
         Text::FormattedReset => or_status(screen.contents_formatted_reset()),
         Text::FormattedBasic => or_status(screen.contents_formatted_basic()),
         Text::State => or_status(screen.state_formatted()),
@@ -295,14 +300,24 @@ fn input_mode_diff(screen: &Screen, prev: &Screen) -> Result<String, u8>
 
 /// Returns the options that `bits` selects: bit 0 allows a diff to begin by moving rows or columns,
 /// bit 1 allows REP for all characters, and bit 2 allows it for printable ASCII characters. Bit 2
-/// has no effect if bit 1 is set. The other bits are ignored.
+/// has no effect if bit 1 is set. Bit 3 makes the diff portable. The other bits are ignored.
 pub(crate) fn options_in(bits: u8) -> DiffOptions
     ensures { result ≡ options_of bits }
 {
     DiffOptions {
         scroll: bits % 2 == 1,
         repeat: repeat_in(bits),
-        portable: false,
+        portable: bits / 8 % 2 == 1,
+    }
+}
+
+/// Returns the options for a redraw that `bits` selects: bit 3 makes it portable. The other bits are
+/// ignored.
+pub(crate) fn redraw_options_in(bits: u8) -> RedrawOptions
+    ensures { result ≡ redraw_options_of bits }
+{
+    RedrawOptions {
+        portable: bits / 8 % 2 == 1,
     }
 }
 

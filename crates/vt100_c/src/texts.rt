@@ -4,12 +4,12 @@ ghost use Rattle.std.specs.Prelude.{Some};
 ghost use Rattle.vt100_c.specs.Due.{IsAnswer, any_screen, due_at, due_on, start_status};
 ghost use Rattle.vt100_c.specs.KeptText.{KeepsText};
 ghost use Rattle.vt100_c.specs.Sources.{screen_in};
-ghost use Rattle.vt100_c.specs.Texts.{MakesText, due_for};
+ghost use Rattle.vt100_c.specs.Texts.{MakesText, due_for, redraw_options_of};
 ghost use Rattle.vt100_c.specs.declared.output.Text.TheVariants as text;
 
 use crate::handle::Handle;
 use crate::object::Object;
-use crate::output::{Text, keep, text_in};
+use crate::output::{Text, keep, redraw_options_in, text_in};
 use crate::status::NO_OBJECT;
 use std::alloc::Global;
 
@@ -79,6 +79,29 @@ pub extern "C" fn vt100_contents_formatted(
     ensures keeps { KeepsText handle.old.held result handle.new.held len.old len.new }
 {
     make(alloc, handle, Text::Formatted, len)
+}
+
+/// Generates the escape sequences that redraw the screen on a plain terminal of the same size, with
+/// options ([`vt100::Screen::contents_formatted_with`]). Bit 3 of `options` makes the redraw
+/// portable; the other bits are ignored. Stores them in the handle and their length in `len`.
+///
+/// # Errors
+///
+/// Returns `NO_OBJECT` if the handle is empty, `WRONG_KIND` if it holds neither a parser nor a saved
+/// screen, or `OUT_OF_MEMORY` if the output cannot be allocated. On error, nothing is changed.
+#[unsafe(no_mangle)]
+pub extern "C" fn vt100_contents_formatted_with(
+    alloc: Global,
+    handle: &mut Handle,
+    options: u8,
+    len: &mut usize,
+) -> u8
+    ensures answer { IsAnswer (due_at any_screen handle.old.held) result }
+    ensures text { MakesText (text.FormattedWith (redraw_options_of options)) handle.old.held result handle.new.held }
+    ensures keeps { KeepsText handle.old.held result handle.new.held len.old len.new }
+{
+    let chosen = redraw_options_in(options);
+    make(alloc, handle, Text::FormattedWith(chosen), len)
 }
 
 /// Generates the escape sequences that redraw the screen on a terminal of the

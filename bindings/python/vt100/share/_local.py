@@ -50,12 +50,13 @@ class LocalTerminal:
     def _update(self, screen: Screen) -> str:
         shown, self._shown = self._shown, screen
         if shown is None:
-            return _ENTER + TERMINAL_SETUP + screen.state_formatted()
+            redraw = screen.contents_formatted(portable=True)
+            return _ENTER + TERMINAL_SETUP + redraw + screen.input_mode_formatted()
         modes = screen.input_mode_diff(shown)
         if self._must_redraw or not shown.is_steady() or shown.size != screen.size:
             self._must_redraw = False
-            return TERMINAL_SETUP + screen.contents_formatted() + modes
-        return screen.contents_diff(shown) + modes
+            return TERMINAL_SETUP + screen.contents_formatted(portable=True) + modes
+        return screen.contents_diff_with(shown, portable=True) + modes
 
     def _write(self) -> None:
         try:
