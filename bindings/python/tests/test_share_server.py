@@ -18,9 +18,16 @@ try:
 except ImportError:
     ClientPerMessageDeflateFactory = None
 
-ECHO = ["sh", "-c", "stty -echo raw; exec cat"]
+# A program whose output is its input. Its title says when the terminal itself no longer echoes.
+ECHO = ["sh", "-c", "stty -echo raw; printf '\\033]2;ready\\007'; exec cat"]
 CONTINUATION, TEXT, BINARY, PING = 0, 1, 2, 9
 COMPRESSED = 0x40
+
+
+async def ready(shared):
+    """Waits until the terminal of ECHO no longer echoes."""
+    while shared.share.title != b"ready":
+        await asyncio.sleep(0.01)
 
 
 def frame(kind, data, is_last=True, length=None):
@@ -55,6 +62,7 @@ class Frames(unittest.TestCase):
 
         async def check():
             async with Shared(ECHO, size) as shared:
+                await ready(shared)
                 first, second = [await shared.viewer(shared.tokens.write) for _ in range(2)]
                 await asyncio.gather(first.until(""), second.until(""))
                 for number, chunk in enumerate(chunks):
@@ -83,6 +91,7 @@ class Frames(unittest.TestCase):
     def test_a_request_may_arrive_in_chunks_and_with_the_first_frames(self):
         async def check():
             async with Shared(ECHO) as shared:
+                await ready(shared)
                 viewer = Client(shared.port)
                 streams = await asyncio.open_connection("127.0.0.1", shared.port)
                 viewer.reader, viewer.writer = streams
@@ -118,6 +127,7 @@ class Frames(unittest.TestCase):
     def test_idle_connections_need_no_protocol(self):
         async def check():
             async with Shared(ECHO) as shared:
+                await ready(shared)
                 for make in (Client, Client, Compressing, Compressing):
                     viewer = await make(shared.port).open(shared.tokens.write)
                     await viewer.send(b"iword")
@@ -130,6 +140,7 @@ class Frames(unittest.TestCase):
     def test_viewers_get_the_same_frame(self):
         async def check():
             async with Shared(ECHO) as shared:
+                await ready(shared)
                 viewers = [await shared.viewer(shared.tokens.write) for _ in range(6)]
                 await asyncio.gather(*(viewer.until("") for viewer in viewers))
                 before = shared.server.sockets.frame.cache_info().misses
@@ -145,6 +156,7 @@ class Compression(unittest.TestCase):
     def test_viewers_with_and_without_compression_see_the_same(self):
         async def check():
             async with Shared(ECHO) as shared:
+                await ready(shared)
                 token = shared.tokens.write
                 viewers = [await Compressing(shared.port).open(token) for _ in range(3)]
                 viewers.append(await shared.viewer())
@@ -173,6 +185,7 @@ class Compression(unittest.TestCase):
     def test_smaller_windows_are_refused(self):
         async def check():
             async with Shared(ECHO) as shared:
+                await ready(shared)
                 viewer = Compressing(shared.port, server_max_window_bits=9)
                 await viewer.open(shared.tokens.write)
                 self.assertEqual(viewer.protocol.extensions, [])
@@ -186,6 +199,7 @@ class Compression(unittest.TestCase):
 
         async def check():
             async with Shared(ECHO) as shared:
+                await ready(shared)
                 viewer = await make(shared.port).open(shared.tokens.write)
                 await viewer.until("")
                 viewer.writer.write(data)
@@ -215,6 +229,7 @@ class LeftOut(unittest.TestCase):
     def test_who_has_not_drained_is_left_out(self):
         async def check():
             async with Shared(ECHO) as shared:
+                await ready(shared)
                 writer, other = await shared.viewer(shared.tokens.write), await shared.viewer()
                 await asyncio.gather(writer.until(""), other.until(""))
                 await other.until_true(lambda: other.counts == (2, 1))
