@@ -6,6 +6,11 @@ import { Browser } from "../../js/view/tests/lib/browser.mjs";
 /** The values of `modifiers` in events. */
 export const CTRL = 2, SHIFT = 8;
 
+/** Whether the font fits the window. Its size changes with the next drawing after the first screen has come. */
+export const FITS = `(({ width, height }) => width <= innerWidth && height <= innerHeight
+  && (width > innerWidth * 0.8 || height > innerHeight * 0.8))(
+  document.querySelector("vt100-view").shadowRoot.querySelector("canvas").getBoundingClientRect())`;
+
 // Violations of the Content-Security-Policy are not messages of the console by themselves.
 const WATCH = `addEventListener("securitypolicyviolation", ({ violatedDirective, blockedURI }) =>
   console.log("violation", violatedDirective, blockedURI))`;
@@ -68,6 +73,7 @@ export class SharedPage {
 
   /** Returns the middle of a cell, in the coordinates of events. */
   async cell(row, col) {
+    await this.until(FITS);
     // The size of the font may change with the next drawing.
     await this.evaluate("new Promise((done) => requestAnimationFrame(() => requestAnimationFrame(done)))");
     const view = await this.evaluate(`(({ cellWidth, cellHeight }) => ({ cellWidth, cellHeight }))(

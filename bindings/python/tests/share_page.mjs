@@ -1,14 +1,9 @@
 // share_page.mjs READ WRITE [PICTURE]: opens the page of vt100.share in Chromium, first by the address for reading, then by
 // that for writing, in which it types. Writes what it finds as JSON. A picture of the last page goes into the file PICTURE.
 
-import { report } from "./share_browser.mjs";
+import { FITS, report } from "./share_browser.mjs";
 
 const [readUrl, writeUrl, picture] = process.argv.slice(2);
-
-// The size of the font changes with the next drawing.
-const FITS = `(({ width, height }) => width <= innerWidth && height <= innerHeight
-  && (width > innerWidth * 0.8 || height > innerHeight * 0.8))(
-  document.querySelector("vt100-view").shadowRoot.querySelector("canvas").getBoundingClientRect())`;
 
 await report({}, async (page) => {
   const found = {};
