@@ -10,7 +10,7 @@ from ..parser import Parser
 from . import _messages as messages
 from ._history import History
 
-#: The number of past updates that are kept for viewers that have fallen behind.
+#: The number of past updates that are kept for viewers that missed some.
 KEPT = 64
 
 #: The number of bytes of output that may wait for the next version.
@@ -23,8 +23,8 @@ class Cohort:
     The screen is cut into versions, which are numbered. A viewer displays one of them, or none
     before its first message: `message(version)` returns what takes it to `self.version`. One viewer
     of a `Mirror` stands for all that are in step, so a version costs one or two calls of the
-    library, however many viewers there are. A viewer that has fallen behind gets the updates that
-    it missed, joined, or a redraw if that is shorter or if the updates are no longer kept. By the
+    library, however many viewers there are. A viewer that missed some updates gets
+    these, joined, or a redraw if that is shorter or if the updates are no longer kept. By the
     chain law of mirrors, all of them display the same version.
 
     The mirror reads output only when a version begins. If it read output in between, a redraw would
