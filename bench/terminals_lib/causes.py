@@ -5,11 +5,12 @@ import time
 from texts import BOLD, DIM, ITALIC
 
 OVERHANG, PLACE, WIDTHS = "overhang", "cursor's place", "own widths"
+SHIFTED = "shifted by own widths"
 INTENSITY, WIDE, OTHER = "bold and dim", "wide glyph", "other"
-# The causes that lie in the terminal.
-OWN = (OVERHANG, WIDTHS)
+# The causes that lie in the terminal, and those that portable output avoids only.
+OWN, AVOIDED = (OVERHANG, WIDTHS), (SHIFTED,)
 # From the least telling cause to the most telling one.
-CAUSES = (OVERHANG, PLACE, WIDTHS, INTENSITY, WIDE, OTHER)
+CAUSES = (OVERHANG, PLACE, WIDTHS, SHIFTED, INTENSITY, WIDE, OTHER)
 
 
 def unequal(one, two):
@@ -50,17 +51,29 @@ class Widths:
             self.known[glyph] = self.terminal.cursor()[1]
         return self.known[glyph] != width
 
-    def is_odd_row(self, row):
-        """Returns whether a row contains such a glyph."""
-        pairs = zip(row, [*row[1:], ("", None)])
-        return any(cell[0] and self.is_odd(cell[0], 1 + (after[0] is None)) for cell, after in pairs)
+    def odd_columns(self, row):
+        """Yields the columns of such glyphs of a row, and the column after each."""
+        for col, (glyph, _) in enumerate(row):
+            width = 1 + (col + 1 < len(row) and row[col + 1][0] is None)
+            if glyph and self.is_odd(glyph, width):
+                yield from range(col, col + width + 1)
+
+    def odd_places(self, rows):
+        """Returns the places of such glyphs, and the place after each. A glyph that is too wide for the rest of its row
+        is at the beginning of the next row.
+        """
+        found = {(at, col) for at, row in enumerate(rows) for col in self.odd_columns(row)}
+        wrapped = {at + 1 for at, end in found if end == len(rows[at]) and at + 1 < len(rows)}
+        return found | {(at, col) for at in wrapped for col in (0, 1)}
 
 
-def cause_in(screen, place, odd_rows):
+def cause_in(screen, place, odd):
     """Returns why the cell at a place differs, as far as the screen tells. Below the rows is the cursor."""
     rows, (row, col) = screen.rows, place
-    if row in odd_rows or row == len(rows) and screen.cursor[0] in odd_rows:
+    if place in odd:
         return WIDTHS
+    if any(it[0] == (screen.cursor[0] if row == len(rows) else row) for it in odd):
+        return SHIFTED
     if row == len(rows):
         return PLACE
     near = rows[row][max(col - 1, 0) : col + 2]
@@ -75,7 +88,7 @@ def cause_in(screen, place, odd_rows):
 
 def cause_of(places, screens, widths):
     """Returns why cells differ: the most telling cause of a cell. `screens` are the screen and the one before it."""
-    odd = {at for screen in screens for at, row in enumerate(screen.rows) if widths.is_odd_row(row)}
+    odd = {place for screen in screens for place in widths.odd_places(screen.rows)}
     cause = max((cause_in(screens[0], place, odd) for place in places), key=CAUSES.index)
-    # A glyph that is too wide for its row wraps, and so disturbs other rows, too.
-    return WIDTHS if odd and cause in (PLACE, WIDE, OTHER) else cause
+    # A row that is shifted may wrap, and so disturb other rows, too.
+    return SHIFTED if odd and cause in (PLACE, WIDE, OTHER) else cause
