@@ -144,8 +144,8 @@ class Publisher:
         if has_keyframe:
             due.append(stream.KEYFRAME + cohort.message(None)[1:])
             self._keyframe_at, self._update_len = self._loop.time(), 0
-        if has_keyframe or self._title_number != share.title_number:
-            self._title_number = share.title_number
+        if has_keyframe or self._title_number != share.notes.title_number:
+            self._title_number = share.notes.title_number
             due.append(stream.TITLE + share.title)
         if share.is_final and share.status is not None:
             due.append(stream.END + b"%d" % share.status)

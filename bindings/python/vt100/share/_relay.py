@@ -39,7 +39,7 @@ class Relay(Audience):
         self, redis: Redis, name: str, report: Callable[[str], None], token: Optional[str] = None
     ) -> None:
         super().__init__(Cohort(_ROWS, _COLS))
-        self.is_stale = True
+        self._set_stale(True)
         self._redis, self._name, self._report = redis, name, report
         self._token = None if token is None else token.encode()
         self._loss = Loss(redis, report)
@@ -129,7 +129,7 @@ class Relay(Audience):
             self.set_title(entry.body)
         elif entry.kind == stream.END:
             status = stream.status_of(entry.body)
-            self.is_stale = False
+            self._set_stale(False)
             self._finish(status)
         elif entry.kind == stream.GONE:
             self._heard = _NEVER
@@ -139,22 +139,26 @@ class Relay(Audience):
         if self.status is not None or not self._is_caught_up:
             return
         is_live = self._is_in_step and self._loop.time() - self._heard < stream.STALE_AFTER
-        if self.is_stale == is_live:
-            self.is_stale = not is_live
+        if self.notes.is_stale == is_live:
+            self._set_stale(not is_live)
             if not self._loss.is_lost:
                 self._report(_LIVE if is_live else _STALE)
             self._schedule()
-        shown = self.cohort.version, self.title_number
+        shown = self.cohort.version, self.notes.title_number
         if self.cohort.has_changed or shown != self._shown:
             self._shown = shown
             self._schedule()
+
+    def _set_stale(self, is_stale: bool) -> None:
+        self.notes = self.notes._replace(is_stale=is_stale)
 
     # ---- what viewers type
 
     def type(self, data: bytes) -> None:
         """Sends input to the program. Drops it while the screen is stale, and if much of it is
         waiting."""
-        if self._token is None or self.is_stale or len(self._unsent) + len(data) > _MAX_UNSENT:
+        is_full = len(self._unsent) + len(data) > _MAX_UNSENT
+        if self._token is None or self.notes.is_stale or is_full:
             return
         self._unsent += data
         self._wake.set()

@@ -4,10 +4,13 @@ module moves its bytes, so that it sees when a viewer's socket has drained."""
 from __future__ import annotations
 
 import asyncio
+import os
+import socket
 import time
-from typing import Any, Callable, List, Optional, Set, cast
+from typing import Any, List, Optional, Set, cast
 
 from . import _messages as messages
+from ._listening import Listener
 from ._share import Audience
 from ._site import Response, Site
 from ._sockets import NoLibrary as NoLibrary
@@ -24,7 +27,7 @@ PING_AFTER, GONE_AFTER = 20.0, 60.0
 _MAX_REQUEST = 16384
 _END_OF_REQUEST = b"\r\n\r\n"
 
-#: How many connections there may be besides those of viewers.
+#: How many connections there may be besides those of viewers. Others wait until they are accepted.
 _MAX_STRANGERS = 256
 
 #: Opcodes of frames (RFC 6455, section 5.2). Those of control frames are not less than `_CLOSE`.
@@ -45,23 +48,41 @@ class Server:
         self.max_viewers = max_viewers
         self.connections: Set[Connection] = set()
         self.sockets = WebSockets()
-        self._listening: Optional[asyncio.AbstractServer] = None
+        self._listener: Optional[Listener] = None
         self._sweeper: Optional[asyncio.Task[None]] = None
+        self._arriving: Set[asyncio.Task[None]] = set()
 
     async def start(self, host: str, port: int) -> int:
         """Begins to listen. Returns the port, which the system chooses if `port` is 0."""
-        loop = asyncio.get_running_loop()
-        self._listening = await loop.create_server(
-            lambda: Connection(self), host, port, backlog=1024
-        )
-        self._sweeper = loop.create_task(self._sweep())
-        number: int = self._listening.sockets[0].getsockname()[1]
+        self._listener = Listener(self._accept, self._has_room)
+        number = await self._listener.start(host, port)
+        self._sweeper = asyncio.get_running_loop().create_task(self._sweep())
         return number
 
-    @property
-    def is_crowded(self) -> bool:
+    def _accept(self, connected: socket.socket) -> None:
+        task = asyncio.get_running_loop().create_task(self._connect(connected))
+        self._arriving.add(task)
+        task.add_done_callback(self._arrived)
+
+    async def _connect(self, connected: socket.socket) -> None:
+        loop = asyncio.get_running_loop()
+        try:
+            await loop.connect_accepted_socket(lambda: Connection(self), connected)
+        except OSError:  # it is lost already
+            connected.close()
+
+    def _arrived(self, task: asyncio.Task[None]) -> None:
+        self._arriving.discard(task)
+        self.make_room()
+
+    def make_room(self) -> None:
+        """Accepts more connections, if there is room. Called when there may be."""
+        if self._listener is not None:
+            self._listener.resume()
+
+    def _has_room(self) -> bool:
         viewers = self.share.viewer_count if self.share is not None else 0
-        return len(self.connections) > viewers + _MAX_STRANGERS
+        return len(self.connections) + len(self._arriving) < viewers + _MAX_STRANGERS
 
     async def _sweep(self) -> None:
         """Cuts off connections that are silent for too long."""
@@ -74,10 +95,12 @@ class Server:
     async def close(self) -> None:
         """Ends all connections. Waits for the viewers' replies as long as there is one in three
         seconds, but no longer than 15 seconds."""
+        if self._listener is not None:
+            self._listener.close()
+            self._listener = None
         if self._sweeper is not None:
             self._sweeper.cancel()
-        if self._listening is not None:
-            self._listening.close()
+        await asyncio.gather(*self._arriving)
         for connection in list(self.connections):
             connection.end(_NORMAL, "the program has ended")
         now = time.monotonic()
@@ -99,6 +122,7 @@ class Connection(asyncio.Protocol):
         "_server",
         "_sockets",
         "_transport",
+        "_file",
         "_request",
         "_protocol",
         "_is_open",
@@ -129,14 +153,14 @@ class Connection(asyncio.Protocol):
     def connection_made(self, transport: asyncio.BaseTransport) -> None:
         self._transport = cast(asyncio.Transport, transport)
         self._transport.set_write_buffer_limits(high=0)
-        if self._server.is_crowded:
-            self._transport.abort()
+        self._file: int = self._transport.get_extra_info("socket").fileno()
         self._server.connections.add(self)
 
     def connection_lost(self, error: Optional[Exception]) -> None:
         self._is_open = False
-        self._server.connections.discard(self)
         self._leave()
+        self._server.connections.discard(self)
+        self._server.make_room()
 
     def _leave(self) -> None:
         if self._share is not None and self._viewer is not None:
@@ -205,6 +229,11 @@ class Connection(asyncio.Protocol):
     # ---- messages
 
     def _read_frames(self, data: bytes) -> None:
+        if self._protocol is None:
+            message = self._sockets.message_in(data, self._is_compressed)
+            if message is not None:
+                self._message(message)
+                return
         protocol = self._begin()
         self._unread += len(data)
         protocol.receive_data(data)
@@ -249,10 +278,29 @@ class Connection(asyncio.Protocol):
         self._share, self._viewer = share, Viewer(may_write, self._send)
         self._viewer.is_drained = self._transport.get_write_buffer_size() == 0
         share.add(self._viewer)
+        self._server.make_room()
 
     def _send(self, message: bytes) -> None:
-        if self._is_open:
-            self._transport.write(self._sockets.frame(message, self._is_compressed))
+        if not self._is_open:
+            return
+        frame = self._sockets.frame(message, self._is_compressed)
+        if self._viewer is not None and self._viewer.is_drained:
+            frame = self._write_at_once(frame)
+        if frame:
+            self._transport.write(frame)
+
+    def _write_at_once(self, frame: bytes) -> bytes:
+        """Writes as much of a frame as the socket accepts, and returns the rest. The transport has
+        nothing to write. Its own method takes a third of the time of the system call more."""
+        if self._transport.is_closing():  # then its descriptor may be that of another connection
+            return b""
+        try:
+            return frame[os.write(self._file, frame) :]
+        except BlockingIOError:
+            return frame
+        except OSError:  # the viewer has gone
+            self._transport.abort()
+            return b""
 
     def _flush(self) -> None:
         """Writes what the protocol has to send. If it is between two messages, it is then like any

@@ -12,7 +12,7 @@ from ._cohort import Cohort
 from ._history import HistorySender
 from ._program import Program
 from ._recording import Recording
-from ._viewers import Viewer
+from ._viewers import Notes, Viewer
 
 #: The shortest time between two rounds of updates, in seconds.
 GAP = 1 / 30
@@ -70,10 +70,8 @@ class Audience:
         self.status: Optional[int] = None
         self.cohort = cohort
         self.title = b""
-        self.title_number = 0
-        #: Whether the screen may be older than that of the program.
-        self.is_stale = False
-        self._counts = (0, 0)
+        #: What viewers get besides the screen. Each change makes it another object.
+        self.notes = Notes()
         self._writer_count = 0
         self._is_counting = False
         self._counted = 0.0
@@ -129,27 +127,27 @@ class Audience:
             viewer.is_behind = True
             return
         viewer.is_behind = False
+        has_notes = viewer.notes is self.notes
         # A stale mark comes before the screen that is stale, and its end after one that is not.
-        if self.is_stale and not viewer.is_stale:
-            self._send_stale(viewer)
+        if not has_notes and self.notes.is_stale and not viewer.notes.is_stale:
+            viewer.send(messages.stale(True))
         if viewer.version != self.cohort.version:
             viewer.send_screen(self.cohort.message(viewer.version), self.cohort.version)
-        if viewer.title_number != self.title_number:
-            viewer.title_number = self.title_number
-            viewer.send(messages.title(self.title))
-        if viewer.counts != self._counts:
-            viewer.counts = self._counts
-            viewer.send(messages.counts(*self._counts))
-        if viewer.is_stale and not self.is_stale:
-            self._send_stale(viewer)
+        if not has_notes:
+            self._send_notes(viewer)
         if self._is_final and not viewer.has_end and self.status is not None:
             if self._rows.has_all(viewer) or is_forced:
                 viewer.has_end = True
                 viewer.send(messages.ended(self.status))
 
-    def _send_stale(self, viewer: Viewer) -> None:
-        viewer.is_stale = self.is_stale
-        viewer.send(messages.stale(self.is_stale))
+    def _send_notes(self, viewer: Viewer) -> None:
+        known, viewer.notes = viewer.notes, self.notes
+        if known.title_number != self.notes.title_number:
+            viewer.send(messages.title(self.title))
+        if known.counts != self.notes.counts:
+            viewer.send(messages.counts(*self.notes.counts))
+        if known.is_stale and not self.notes.is_stale:
+            viewer.send(messages.stale(False))
 
     def receive(self, viewer: Viewer, message: bytes) -> None:
         """Takes a message of a viewer. Raises `Nonsense` if the viewer must be cut off."""
@@ -167,7 +165,7 @@ class Audience:
         """Sends a title to viewers with the next round."""
         if title[: messages.MAX_TITLE] != self.title:
             self.title = title[: messages.MAX_TITLE]
-            self.title_number += 1
+            self.notes = self.notes._replace(title_number=self.notes.title_number + 1)
 
     def _parse(self, data: bytes) -> None:
         """Parses output, and cancels a command that is too long."""
@@ -185,8 +183,8 @@ class Audience:
     def _send_counts(self) -> None:
         self._is_counting = False
         counts = len(self._viewers), self._writer_count
-        if counts != self._counts:
-            self._counts, self._counted = counts, self._loop.time()
+        if counts != self.notes.counts:
+            self.notes, self._counted = self.notes._replace(counts=counts), self._loop.time()
             self._schedule()
 
     # ---- the end

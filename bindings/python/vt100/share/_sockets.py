@@ -5,7 +5,8 @@ from __future__ import annotations
 
 import functools
 import importlib
-from typing import Any, Callable, List
+import zlib
+from typing import Any, Callable, Generator, List, Optional
 
 from . import _messages as messages
 
@@ -14,6 +15,9 @@ _MIN_COMPRESSED = 64
 
 #: The window of the compression, as a power of two: the largest one.
 _WINDOW_BITS = 15
+
+#: What permessage-deflate removes from the end of a message.
+_EMPTY_BLOCK = b"\0\0\xff\xff"
 
 
 class NoLibrary(Exception):
@@ -46,6 +50,34 @@ class _Meter:
 
     def encode(self, frame: Any) -> Any:
         return frame
+
+
+class _Inflation:
+    """An extension that does for a message in one frame what permessage-deflate does without
+    context takeover (RFC 7692, section 7.2.2). That of the package copies each frame twice, which
+    takes longer than to decompress an acknowledgement."""
+
+    name = "inflation"
+
+    def decode(self, frame: Any, *, max_size: int) -> Any:
+        if frame.rsv1 and frame.fin:
+            inflater = zlib.decompressobj(wbits=-_WINDOW_BITS)
+            frame.data = inflater.decompress(frame.data + _EMPTY_BLOCK, max_size)
+            frame.rsv1 = bool(inflater.unconsumed_tail)  # true, and so an error, if it is too long
+        return frame
+
+
+class _Chunk:
+    """Received bytes, as the package reads them."""
+
+    def __init__(self, data: bytes) -> None:
+        self.rest = data
+
+    def read_exact(self, count: int) -> Generator[None, None, bytes]:
+        while len(self.rest) < count:
+            yield
+        data, self.rest = self.rest[:count], self.rest[count:]
+        return data
 
 
 class _Compression:
@@ -90,6 +122,8 @@ class WebSockets:
             ),
             _library("exceptions").NegotiationError,
         )
+        self._inflation = [_Inflation()]
+        self._binary = self._frames.Opcode.BINARY
         self._spare: List[List[Any]] = [[], []]
         self.response: Any = _library("http11").Response
         self.headers: Any = _library("datastructures").Headers
@@ -127,6 +161,28 @@ class WebSockets:
         count: int = meter.count
         meter.count = 0
         return count
+
+    def message_in(self, data: bytes, is_compressed: bool) -> Optional[bytes]:
+        """Returns the message, if bytes that begin between two messages are one frame with a binary
+        message. Most of what viewers send is, and takes a protocol several times as long. A
+        protocol must read all else, and finds what is wrong with it."""
+        chunk = _Chunk(data)
+        reading = self._frames.Frame.parse(
+            chunk.read_exact,
+            mask=True,
+            max_size=messages.MAX_RECEIVED,
+            extensions=self._inflation if is_compressed else None,
+        )
+        try:
+            next(reading)
+        except StopIteration as end:
+            frame: Any = end.value
+        except Exception:  # what a version of the package raises for a malformed frame
+            return None
+        else:
+            return None
+        is_message = frame.opcode is self._binary and frame.fin and not chunk.rest
+        return bytes(frame.data) if is_message else None
 
     def _extension(self) -> Any:
         return self._deflate.PerMessageDeflate(True, True, _WINDOW_BITS, _WINDOW_BITS)

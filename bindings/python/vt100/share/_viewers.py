@@ -7,7 +7,7 @@ import os
 import re
 import secrets
 import time
-from typing import Callable, Optional
+from typing import Callable, NamedTuple, Optional, Tuple
 
 from . import _messages as messages
 from ._messages import Nonsense
@@ -66,6 +66,15 @@ class Tokens:
         return False if reads else None
 
 
+class Notes(NamedTuple):
+    """What viewers get besides the screen: whether the screen may be old, the number of the title,
+    and how many viewers and writers there are."""
+
+    is_stale: bool = False
+    title_number: int = 0
+    counts: Tuple[int, int] = (0, 0)
+
+
 class Viewer:
     """A viewer whose token was right.
 
@@ -77,9 +86,7 @@ class Viewer:
         "may_write",
         "version",
         "row",
-        "title_number",
-        "counts",
-        "is_stale",
+        "notes",
         "is_behind",
         "has_end",
         "is_drained",
@@ -95,9 +102,7 @@ class Viewer:
         self.may_write = may_write
         self.version: Optional[int] = None
         self.row: Optional[int] = None
-        self.title_number = 0
-        self.counts = 0, 0
-        self.is_stale = False
+        self.notes = Notes()
         self.is_behind = False
         self.has_end = False
         self.is_drained = True

@@ -1,0 +1,89 @@
+"""Listening sockets whose connections are accepted a few at a time."""
+
+from __future__ import annotations
+
+import asyncio
+import socket
+from typing import Callable, List
+
+#: How many connections the system keeps until they are accepted, if it allows as many.
+_BACKLOG = 1024
+
+#: How many connections are accepted before the event loop has its turn, so that many which come at
+#: once do not delay updates.
+_AT_ONCE = 8
+
+#: How long to accept nothing after the system has refused to, in seconds: if a process may open no
+#: more files, say.
+_PAUSE = 1.0
+
+
+class Listener:
+    """Listens on an address, and calls `accept` with each connection while `has_room()` returns
+    true. The others wait. `resume` must be called when there is room again."""
+
+    def __init__(
+        self, accept: Callable[[socket.socket], object], has_room: Callable[[], bool]
+    ) -> None:
+        self._accept, self._has_room = accept, has_room
+        self._loop = asyncio.get_running_loop()
+        self._sockets: List[socket.socket] = []
+        self._is_waiting = False
+
+    async def start(self, host: str, port: int) -> int:
+        """Begins to listen on all addresses of `host`. Returns the port, which the system chooses
+        if `port` is 0. Raises `OSError`."""
+        found = await self._loop.getaddrinfo(host, port, type=socket.SOCK_STREAM)
+        try:
+            for family, kind, protocol, _, address in dict.fromkeys(found):
+                one = socket.socket(family, kind, protocol)
+                self._sockets.append(one)
+                one.setblocking(False)
+                one.setsockopt(socket.SOL_SOCKET, socket.SO_REUSEADDR, 1)
+                if family == socket.AF_INET6:
+                    one.setsockopt(socket.IPPROTO_IPV6, socket.IPV6_V6ONLY, 1)
+                one.bind((address[0], port, *address[2:]))
+                one.listen(_BACKLOG)
+                port = one.getsockname()[1]
+        except BaseException:
+            self.close()
+            raise
+        for one in self._sockets:
+            self._loop.add_reader(one.fileno(), self._take, one)
+        return port
+
+    def _take(self, listening: socket.socket) -> None:
+        for _ in range(_AT_ONCE):
+            if not self._has_room():
+                self._wait()
+                return
+            try:
+                connected, _address = listening.accept()
+            except (BlockingIOError, InterruptedError, ConnectionError):
+                return
+            except OSError:
+                self._wait()
+                self._loop.call_later(_PAUSE, self.resume)
+                return
+            connected.setblocking(False)
+            self._accept(connected)
+
+    def _wait(self) -> None:
+        self._is_waiting = True
+        for one in self._sockets:
+            self._loop.remove_reader(one.fileno())
+
+    def resume(self) -> None:
+        """Accepts connections again, if there is room."""
+        if self._is_waiting and self._has_room():
+            self._is_waiting = False
+            for one in self._sockets:
+                self._loop.add_reader(one.fileno(), self._take, one)
+
+    def close(self) -> None:
+        """Ends listening. The system refuses connections that have not been accepted."""
+        for one in self._sockets:
+            self._loop.remove_reader(one.fileno())
+            one.close()
+        self._sockets.clear()
+        self._is_waiting = False
