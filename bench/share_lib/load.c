@@ -24,7 +24,7 @@
 #include <unistd.h>
 #include <zlib.h>
 
-enum { ACKNOWLEDGE_AFTER = 4096, SLOW_RATE = 2048, ROOM = 1 << 16, SLOTS = 1 << 21, MOST_JOINING = 200 };
+enum { ACKNOWLEDGE_AFTER = 4096, SLOW_RATE = 2048, ROOM = 1 << 16, SLOTS = 1 << 21, MOST_JOINING = 1000 };
 enum state { AWAY, CONNECTING, HANDSHAKE, OPEN, GONE };
 
 /* A message. `data` is there while a terminal has read it. */

@@ -102,8 +102,10 @@ class RedisServer:
 class Published(Shared):
     """A program and its server, which publishes to Redis, within this process."""
 
-    def __init__(self, server, command, size=(24, 80), name="stream", token=TOKEN, user=""):
-        super().__init__(command, size)
+    def __init__(
+        self, server, command, size=(24, 80), name="stream", token=TOKEN, user="", scrollback=0
+    ):
+        super().__init__(command, size, scrollback=scrollback)
         self.redis, self.name, self.token, self.user = server, name, token, user
         self.reports = []
 

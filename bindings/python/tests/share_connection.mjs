@@ -4,6 +4,8 @@ import assert from "node:assert/strict";
 import { Connection } from "../vt100/share/page/connection.js";
 
 const sockets = [], timers = [], calls = [];
+let chance = 0.5;
+Math.random = () => chance;
 globalThis.setTimeout = (run, delay) => timers.push({ run, delay });
 globalThis.WebSocket = class extends EventTarget {
   static OPEN = 1;
@@ -67,13 +69,18 @@ first.receive("S0");
 assert.deepEqual(calls.splice(0),
   ["viewers 256 2", "status old The program is out of reach: this screen may be old.", "status current "]);
 
-// A lost connection is replaced, later and later; the count of bytes begins anew.
+// A lost connection is replaced, later and later, at random; the count of bytes begins anew.
 first.close(1006);
 assert.match(calls.pop(), /^status old Not connected/);
 timers.pop().run();
-sockets[1].close(1006);
-assert.deepEqual(timers.map(({ delay }) => delay), [500]);
-timers.pop().run();
+for (const [random, delay] of [[0.5, 500], [0, 500], [0.75, 2500], [0.5, 4000], [0.5, 8000], [0.5, 10000], [0, 5000]]) {
+  chance = random;
+  sockets.at(-1).close(1013);
+  const timer = timers.pop();
+  assert.deepEqual([timer.delay, timers], [delay, []]);
+  timer.run();
+}
+sockets.splice(2, sockets.length - 3); // the first two and the last one stay
 sockets[2].open();
 sockets[2].receive("W0");
 sockets[2].receive("F\0\x01\0\x01" + "y".repeat(4091));

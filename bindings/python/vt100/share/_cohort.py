@@ -8,7 +8,7 @@ from ..callbacks import Callbacks
 from ..mirror import Mirror
 from ..parser import Parser
 from . import _messages as messages
-from ._history import History
+from ._history import History, Rows
 
 #: The number of past updates that are kept for viewers that missed some.
 KEPT = 64
@@ -34,16 +34,23 @@ class Cohort:
     """
 
     def __init__(
-        self, rows: int, cols: int, callbacks: Optional[Callbacks] = None, scrollback: int = 0
+        self,
+        rows: int,
+        cols: int,
+        callbacks: Optional[Callbacks] = None,
+        scrollback: int = 0,
+        history: Optional[Rows] = None,
     ) -> None:
-        #: The rows that had scrolled off when the version began.
-        self.history = History(scrollback)
+        #: The rows that had scrolled off when the version began: at most `scrollback` of the
+        #: parser's, or `history`, which others come from.
+        self.history = History(scrollback) if history is None else history
+        self._scrollback = scrollback
         self.version = 0
         self._callbacks = callbacks
         self._begin(rows, cols)
 
     def _begin(self, rows: int, cols: int) -> None:
-        self.parser = Parser(rows, cols, self.history.limit, self._callbacks)
+        self.parser = Parser(rows, cols, self._scrollback, self._callbacks)
         self.has_changed = False
         self._mirror = Mirror(rows, cols)
         self._viewer = self._mirror.join()

@@ -4,7 +4,7 @@ from __future__ import annotations
 
 import asyncio
 import re
-from typing import Callable, Dict, Iterator, List, NamedTuple, Optional
+from typing import Callable, Dict, Iterator, List, NamedTuple, Optional, Tuple
 
 from ..parser import Parser
 from . import _messages as messages
@@ -34,25 +34,24 @@ class Part(NamedTuple):
     end: int
 
 
-class History:
+class Rows:
     """The latest rows that have scrolled off a screen, at most `limit` of them.
 
     Rows are numbered. A viewer that has the rows before a number gets the next ones by
     `part(number)`. If rows in between are no longer kept, the message begins with a later row than
     the viewer expects: it then discards its own rows, as if the scrollback had been erased.
-
-    The parser of the screen must have been made with `scrollback=limit`. `take` moves the rows from
-    its scrollback to this object. While the alternate screen is displayed, they stay where they
-    are.
     """
 
     def __init__(self, limit: int) -> None:
         self.limit = limit
-        self._size = (0, 0)
         self._rows: List[bytes] = []
-        self._first = 0  # the number of the first row that is kept
-        self._tail = b""
+        self._first = 0
         self._parts: Dict[Optional[int], Part] = {}
+
+    @property
+    def first(self) -> int:
+        """The number of the first row that is kept."""
+        return self._first
 
     @property
     def end(self) -> int:
@@ -60,42 +59,21 @@ class History:
         return self._first + len(self._rows)
 
     def note(self, data: bytes) -> None:
-        """Discards the rows if output that the parser has processed erases the scrollback."""
-        if not self.limit:
-            return
-        data = self._tail + data
-        end = 0
-        for found in _ERASURES.finditer(data):
-            end = found.end()
-        if end:
-            self._discard()
-        self._tail = data[max(end, len(data) - _LONGEST_ERASURE) :]
+        """Takes note of output that the parser of the screen has processed."""
 
     def take(self, parser: Parser) -> None:
-        """Takes the rows that are in the scrollback of the parser."""
-        if not self.limit:
-            return
-        count = parser.scrollback_len
-        # If its scrollback is full, the parser may have dropped rows that were never taken.
-        if count == self.limit or parser.size != self._size:
-            self._size = parser.size
-            self._discard()
-        if count == 0:
-            return
-        height = parser.lines
-        try:
-            for left in range(count, 0, -height):
-                parser.set_scrollback(left)
-                self._rows += _read(parser, min(left, height))
-        finally:
-            parser.set_scrollback(0)
-        parser.clear_scrollback()
+        """Takes rows from the parser of the screen."""
+
+    def add(self, rows: List[bytes]) -> None:
+        """Adds rows that have scrolled off."""
+        self._rows += rows
         excess = max(0, len(self._rows) - self.limit)
         del self._rows[:excess]
         self._first += excess
         self._parts.clear()
 
-    def _discard(self) -> None:
+    def discard(self) -> None:
+        """Discards all rows."""
         # The number that is skipped tells viewers that rows are missing.
         self._first = self.end + 1
         self._rows.clear()
@@ -107,17 +85,66 @@ class History:
         if number == self.end or (number is None and not self._rows):
             return None
         if number not in self._parts:
-            self._parts[number] = self._part(number)
+            begin, rows = self.after(number, CHUNK)
+            self._parts[number] = Part(messages.history(begin, rows), begin + len(rows))
         return self._parts[number]
 
-    def _part(self, number: Optional[int]) -> Part:
+    def after(self, number: Optional[int], size: int) -> Tuple[int, List[bytes]]:
+        """Returns the rows from `number` on, or from the first one if `number` is None, that begin
+        within `size` bytes, and the number of the first of them."""
         begin = end = self._first if number is None else max(number, self._first)
         length = 0
-        while end < self.end and length < CHUNK:
+        while end < self.end and length < size:
             length += len(self._rows[end - self._first])
             end += 1
-        rows = self._rows[begin - self._first : end - self._first]
-        return Part(messages.history(begin, rows), end)
+        return begin, self._rows[begin - self._first : end - self._first]
+
+
+class History(Rows):
+    """The latest rows that have scrolled off the screen of a parser.
+
+    The parser must have been made with `scrollback=limit`. `take` moves the rows from its
+    scrollback to this object. While the alternate screen is displayed, they stay where they are.
+    """
+
+    def __init__(self, limit: int) -> None:
+        super().__init__(limit)
+        self._size = (0, 0)
+        self._tail = b""
+
+    def note(self, data: bytes) -> None:
+        """Discards the rows if output that the parser has processed erases the scrollback."""
+        if not self.limit:
+            return
+        data = self._tail + data
+        end = 0
+        for found in _ERASURES.finditer(data):
+            end = found.end()
+        if end:
+            self.discard()
+        self._tail = data[max(end, len(data) - _LONGEST_ERASURE) :]
+
+    def take(self, parser: Parser) -> None:
+        """Takes the rows that are in the scrollback of the parser."""
+        if not self.limit:
+            return
+        count = parser.scrollback_len
+        # If its scrollback is full, the parser may have dropped rows that were never taken.
+        if count == self.limit or parser.size != self._size:
+            self._size = parser.size
+            self.discard()
+        if count == 0:
+            return
+        height = parser.lines
+        rows: List[bytes] = []
+        try:
+            for left in range(count, 0, -height):
+                parser.set_scrollback(left)
+                rows += _read(parser, min(left, height))
+        finally:
+            parser.set_scrollback(0)
+        parser.clear_scrollback()
+        self.add(rows)
 
 
 def _read(parser: Parser, count: int) -> List[bytes]:
@@ -141,7 +168,7 @@ class HistorySender:
 
     def __init__(
         self,
-        history: History,
+        history: Rows,
         is_current: Callable[[Viewer], bool],
         finished: Callable[[Viewer], None],
     ) -> None:

@@ -3,20 +3,20 @@
 from __future__ import annotations
 
 import asyncio
+import collections
 import contextlib
 import secrets
-from typing import Callable, Dict, List, Optional
+from typing import Callable, Deque, Dict, List, Optional, Tuple
 
+from . import _messages as messages
 from . import _stream as stream
-from ._redis import Loss, Redis, stop
-from ._share import Audience
+from ._history import Rows
+from ._redis import Delays, Loss, Redis, stop
+from ._share import GAP, Audience
 
 #: The longest time between two keyframes, in seconds, and the number of bytes of updates after
 #: which one is due earlier.
 KEYFRAME_GAP, KEYFRAME_BYTES = 5.0, 1 << 20
-
-#: How long after an error the next attempt is made, in seconds: twice as long each time.
-_FIRST_DELAY, _LONGEST_DELAY = 0.1, 2.0
 
 #: How long the end may take to reach Redis, in seconds.
 _PATIENCE = 3.0
@@ -27,6 +27,78 @@ _KEPT, _KEPT_AFTER_END = 3600, 60
 
 #: Of how many relays input is accepted.
 _MAX_RELAYS = 1024
+
+
+class PublishedRows:
+    """Which rows that have scrolled off have been published, and where."""
+
+    def __init__(self, history: Rows, run: bytes) -> None:
+        self._history, self._run = history, run
+        self._row: Optional[int] = None
+        self._places: Deque[Tuple[bytes, int]] = collections.deque()
+
+    def begin(self) -> None:
+        """Begins anew: nothing has been published."""
+        self._row = None
+        self._places.clear()
+
+    @property
+    def entry_count(self) -> int:
+        """How many entries there are."""
+        return len(self._places)
+
+    @property
+    def has_more(self) -> bool:
+        """Whether there are rows to publish."""
+        is_new = self._row is None and self._history.end == self._history.first
+        return not is_new and self._row != self._history.end
+
+    def next(self) -> Optional[stream.RowsEntry]:
+        """Returns the next rows to publish, or None if there are none."""
+        if not self.has_more:
+            return None
+        number, rows = self._history.after(self._row, stream.ROWS_SIZE)
+        self._row = number + len(rows)
+        return stream.RowsEntry(self._run, number, self._history.limit, rows)
+
+    def added(self, entry: stream.RowsEntry, place: bytes) -> Optional[bytes]:
+        """Takes note of the place of an entry. Returns that of the oldest entry with rows that are
+        still kept, if there are older ones."""
+        self._places.append((place, entry.number + len(entry.rows)))
+        has_older = False
+        while len(self._places) > 1 and self._places[0][1] <= self._history.first:
+            self._places.popleft()
+            has_older = True
+        return self._places[0][0] if has_older else None
+
+
+class Census:
+    """Counts the viewers of relays, from what these report. A relay whose report stays the same has
+    ended."""
+
+    def __init__(self) -> None:
+        self._known: Dict[bytes, Tuple[bytes, float]] = {}
+        #: The relays that have ended.
+        self.gone: List[bytes] = []
+
+    def count(self, reports: Dict[bytes, bytes], now: float) -> Tuple[int, int]:
+        """Returns the numbers of viewers and of writers."""
+        known, self._known, self.gone = self._known, {}, []
+        viewers = writers = 0
+        for relay, value in list(reports.items())[:_MAX_RELAYS]:
+            before = known.get(relay)
+            since = before[1] if before is not None and before[0] == value else now
+            try:
+                report = stream.report_of(value)
+            except stream.Malformed:
+                report = None
+            if report is None or now - since > stream.UNCOUNTED_AFTER:
+                self.gone.append(relay)
+                continue
+            self._known[relay] = value, since
+            viewers += report.viewers
+            writers += report.writers
+        return viewers, writers
 
 
 class Taken(Exception):
@@ -59,14 +131,19 @@ class Publisher:
         self._number = 0
         self._version: Optional[int] = None
         self._title_number = 0
+        self._counts = 0, 0
         self._keyframe_at = 0.0
         self._update_len = 0
         self._last_keyframe: Optional[bytes] = None
         self._is_claimed = self._is_leaving = False
         self._wake, self._over = asyncio.Event(), asyncio.Event()
         self._last_numbers: Dict[bytes, int] = {}
+        self._rows = PublishedRows(share.cohort.history, self.run)
+        self._census = Census()
         share.listen(self._wake.set)
-        self._tasks = [self._loop.create_task(self._publish())]
+        self._tasks = [
+            self._loop.create_task(self._publish()), self._loop.create_task(self._count_viewers())
+        ]
         if self._token is not None:
             self._tasks.append(self._loop.create_task(self._read_input(self._token)))
 
@@ -85,21 +162,20 @@ class Publisher:
     # ---- what the program shows
 
     async def _publish(self) -> None:
-        delay = _FIRST_DELAY
+        delays = Delays()
         while not self._over.is_set():
             try:
                 await self._begin()
                 while not self._over.is_set():
                     await self._publish_once()
                     self._loss.found()
-                    delay = _FIRST_DELAY
+                    delays.reset()
             except Taken:
                 self._report("another server publishes to this stream: publishing ends")
                 self._over.set()
             except self._redis.errors as error:
                 self._loss.lost(error)
-                await asyncio.sleep(delay)
-                delay = min(2 * delay, _LONGEST_DELAY)
+                await asyncio.sleep(delays.next())
 
     async def _begin(self) -> None:
         """Takes the stream, unless it has been taken by another server since it was taken by this
@@ -108,23 +184,31 @@ class Publisher:
         # take the keyframe.
         self._number += 2
         self._version = self._last_keyframe = None
-        if not self._is_claimed:
+        if self._is_claimed:
+            self._check_owner(await self._redis.client.get(self._owner))
+        else:
             await self._redis.client.set(self._owner, self.run, ex=_KEPT)
             self._is_claimed = True
+        await self._redis.client.delete(stream.rows_name(self._name))
+        self._rows.begin()
 
     async def _publish_once(self) -> None:
         """Publishes what there is to publish, and waits until there is more."""
         self._wake.clear()
         has_keyframe = self._is_keyframe_due()
-        due = self._due(has_keyframe)
         if has_keyframe:
-            self._check_owner(await self._redis.client.get(self._owner))
-        if due:
-            await self._add(due, has_keyframe)
-        if not self._over.is_set():
-            try:
-                await asyncio.wait_for(self._wake.wait(), stream.ALIVE_GAP)
-            except asyncio.TimeoutError:
+            await self._check_keys()
+        rows = self._rows.next()
+        due = self._due(has_keyframe)
+        if due or rows is not None:
+            await self._add(due, has_keyframe, rows)
+        if self._over.is_set():
+            return
+        try:
+            wait = GAP if self._rows.has_more else stream.ALIVE_GAP
+            await asyncio.wait_for(self._wake.wait(), wait)
+        except asyncio.TimeoutError:
+            if not self._rows.has_more:
                 await self._add([stream.ALIVE], False)
 
     def _is_keyframe_due(self) -> bool:
@@ -147,19 +231,32 @@ class Publisher:
         if has_keyframe or self._title_number != share.notes.title_number:
             self._title_number = share.notes.title_number
             due.append(stream.TITLE + share.title)
-        if share.is_final and share.status is not None:
+        if has_keyframe or self._counts != share.notes.counts:
+            self._counts = share.notes.counts
+            due.append(messages.counts(*self._counts))
+        if share.is_final and share.status is not None and not self._rows.has_more:
             due.append(stream.END + b"%d" % share.status)
         elif self._is_leaving and share.status is None:
             due.append(stream.GONE)
         return due
 
+    async def _check_keys(self) -> None:
+        """Checks the owner, and begins the rows anew if Redis has lost them."""
+        name, client = stream.rows_name(self._name), self._redis.client
+        self._check_owner(await client.get(self._owner))
+        if await client.xlen(name) != self._rows.entry_count:
+            await client.delete(name)
+            self._rows.begin()
+
     def _check_owner(self, owner: Optional[bytes]) -> None:
         if owner is not None and owner != self.run:
             raise Taken()
 
-    async def _add(self, due: List[bytes], has_keyframe: bool) -> None:
-        """Adds messages to the stream."""
-        is_end = due[-1][:1] in (stream.END, stream.GONE)
+    async def _add(
+        self, due: List[bytes], has_keyframe: bool, rows: Optional[stream.RowsEntry] = None
+    ) -> None:
+        """Adds messages to the stream, and rows to that of the rows."""
+        is_end = bool(due) and due[-1][:1] in (stream.END, stream.GONE)
         keyframe = 0
         async with self._redis.client.pipeline(transaction=True) as calls:
             calls.get(self._owner)
@@ -169,13 +266,17 @@ class Publisher:
                 calls.xadd(self._name, fields)
                 if message[:1] == stream.KEYFRAME:
                     keyframe = position
+            if rows is not None:
+                calls.xadd(stream.rows_name(self._name), stream.rows_fields(*rows))
             if is_end or has_keyframe:
                 seconds = _KEPT_AFTER_END + int(self._linger) if is_end else _KEPT
                 calls.set(self._owner, self.run, nx=True)
-                for name in (self._owner, self._name, stream.input_name(self._name)):
+                for name in stream.names(self._name):
                     calls.expire(name, seconds)
             results = await calls.execute()
         self._check_owner(results[0])
+        if rows is not None:
+            await self._trim_rows(rows, results[len(due) + 1])
         if has_keyframe:
             await self._trim(results[keyframe])
         if is_end:
@@ -188,13 +289,35 @@ class Publisher:
         self._last_keyframe = keyframe
         await self._redis.client.xtrim(self._name, minid=oldest, approximate=False)
 
+    async def _trim_rows(self, rows: stream.RowsEntry, place: bytes) -> None:
+        """Removes the rows that are no longer kept, after some were added at a place."""
+        oldest = self._rows.added(rows, place)
+        if oldest is not None:
+            name = stream.rows_name(self._name)
+            await self._redis.client.xtrim(name, minid=oldest, approximate=False)
+
+    # ---- the viewers of relays
+
+    async def _count_viewers(self) -> None:
+        """Counts them, once a second."""
+        name = stream.viewers_name(self._name)
+        while True:
+            with contextlib.suppress(*self._redis.errors):
+                reports = await self._redis.client.hgetall(name)
+                found = self._census.count(reports, self._loop.time())
+                self._share.count_elsewhere(*found)
+                for relay in self._census.gone:
+                    await self._redis.client.hdel(name, relay)
+            await asyncio.sleep(stream.COUNT_GAP)
+
     # ---- what viewers of relays type
 
     async def _read_input(self, token: bytes) -> None:
         name, place = stream.input_name(self._name), b"0-0"
         while True:
             try:
-                for place, fields in await self._redis.read(name, place):
+                entries = (await self._redis.read({name: place}))[name]
+                for place, fields in entries:
                     self._take(token, fields)
             except self._redis.errors:
                 place = b"0-0"  # the stream may be a new one; what was read is not read again

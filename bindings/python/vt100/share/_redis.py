@@ -6,6 +6,7 @@ import asyncio
 import contextlib
 import importlib
 import os
+import random
 from typing import Any, Callable, Dict, List, Optional, Tuple
 from urllib.parse import urlsplit
 
@@ -19,6 +20,9 @@ READ_WAIT = 0.5
 
 #: After how many seconds without a reply a connection counts as lost.
 _TIMEOUT = 3.0
+
+#: How long after an error the next attempt is made, in seconds: at most this first time, and later.
+_FIRST_DELAY, _LONGEST_DELAY = 0.1, 2.0
 
 #: The environment variable with the password, unless the address contains one: that of `redis-cli`.
 _PASSWORD = "REDISCLI_AUTH"
@@ -59,13 +63,15 @@ class Redis:
         stream."""
         await self.client.xread({name: "0-0"}, count=1)
 
-    async def read(self, name: str, place: bytes) -> Entries:
-        """Returns the entries of a stream after a place: at most `READ_COUNT`. Waits for them, but
-        no longer than `READ_WAIT` seconds."""
-        wait = int(1000 * READ_WAIT)
-        found = await self.client.xread({name: place}, count=READ_COUNT, block=wait)
-        entries: Entries = found[0][1] if found else []
-        return entries
+    async def read(self, places: Dict[str, bytes], can_wait: bool = True) -> Dict[str, Entries]:
+        """Returns the entries of streams after places: at most `READ_COUNT` of each. If there are
+        none and it can wait, it waits for those of one stream, but no longer than `READ_WAIT`
+        seconds."""
+        wait = int(1000 * READ_WAIT) if can_wait else None
+        found: Dict[str, Entries] = {name: [] for name in places}
+        for name, entries in await self.client.xread(places, count=READ_COUNT, block=wait):
+            found[name.decode()] = entries
+        return found
 
     async def close(self) -> None:
         with contextlib.suppress(*self.errors):
@@ -85,6 +91,23 @@ async def stop(tasks: List[asyncio.Task[None]]) -> None:
     for task in tasks:
         if not task.cancelled():
             task.result()
+
+
+class Delays:
+    """How long to wait before each new attempt after errors: about twice as long each time, and at
+    random, so that not all who were disconnected at a time return at a time."""
+
+    def __init__(self) -> None:
+        self._delay = _FIRST_DELAY
+
+    def next(self) -> float:
+        """Returns a number of seconds."""
+        delay, self._delay = self._delay, min(2 * self._delay, _LONGEST_DELAY)
+        return delay * random.uniform(0.5, 1.0)
+
+    def reset(self) -> None:
+        """Begins anew, after success."""
+        self._delay = _FIRST_DELAY
 
 
 class Loss:

@@ -3,27 +3,67 @@
 from __future__ import annotations
 
 import asyncio
+import contextlib
 import secrets
-from typing import Callable, Dict, Optional
+from typing import Callable, Dict, Optional, Tuple
 
 from . import _stream as stream
 from ._cohort import Cohort
-from ._redis import READ_COUNT, Loss, Redis, stop
+from ._history import MAX_ROWS, Rows
+from ._redis import READ_COUNT, Delays, Loss, Redis, stop
 from ._share import Audience
 
 #: The size of the screen before there is one in the stream.
 _ROWS, _COLS = 24, 80
-
-#: How long after an error the next attempt is made, in seconds: twice as long each time.
-_FIRST_DELAY, _LONGEST_DELAY = 0.1, 2.0
 
 _LIVE = "the screen is current"
 _STALE = "nothing comes from the server: the screen may be old"
 
 _NEVER = float("-inf")
 
+#: The place before the first entry of a stream.
+_START = b"0-0"
+
 #: The number of bytes of input that may wait for Redis.
 _MAX_UNSENT = 1 << 16
+
+
+class RelayedRows:
+    """The rows that have scrolled off the server's screen."""
+
+    def __init__(self) -> None:
+        #: Their numbers are not those of the server, which another one may replace.
+        self.history = Rows(MAX_ROWS)
+        self._run = b""
+        self._next: Optional[int] = None
+        self._has_skipped = False
+
+    def begin(self, run: bytes) -> bool:
+        """Takes the rows of the server `run` from now on. Returns whether entries of it may have
+        been skipped."""
+        if run == self._run:
+            return False
+        self._run, self._next = run, None
+        self.history.discard()
+        has_skipped, self._has_skipped = self._has_skipped, False
+        return has_skipped
+
+    def take(self, fields: Dict[bytes, bytes]) -> None:
+        """Takes an entry, unless it is malformed or that of another server. Skips rows that are
+        known."""
+        try:
+            entry = stream.rows_of(fields)
+        except stream.Malformed:
+            return
+        if entry.run != self._run:
+            self._has_skipped = True
+            return
+        following = entry.number if self._next is None else self._next
+        if entry.number > following:
+            self.history.discard()
+        self.history.limit = min(entry.limit, MAX_ROWS)
+        self.history.add(entry.rows[max(0, following - entry.number) :])
+        self._next = max(following, entry.number + len(entry.rows))
 
 
 class Relay(Audience):
@@ -38,7 +78,8 @@ class Relay(Audience):
     def __init__(
         self, redis: Redis, name: str, report: Callable[[str], None], token: Optional[str] = None
     ) -> None:
-        super().__init__(Cohort(_ROWS, _COLS))
+        self._rows_known = RelayedRows()
+        super().__init__(Cohort(_ROWS, _COLS, history=self._rows_known.history))
         self._set_stale(True)
         self._redis, self._name, self._report = redis, name, report
         self._token = None if token is None else token.encode()
@@ -47,12 +88,18 @@ class Relay(Audience):
         self._number = 0
         self._is_in_step = self._is_caught_up = False
         self._heard = _NEVER
-        self._shown = (0, 0)
+        self._shown = (0, 0, 0)
+        self._end: Optional[int] = None
+        self._total = 0, 0
+        self._rows_name = stream.rows_name(name)
+        self._places: Dict[str, bytes] = {}
         self._relay = secrets.token_hex(8).encode()
         self._unsent = bytearray()
         self._typed_count = 0
         self._wake = asyncio.Event()
-        self._tasks = [self._loop.create_task(self._follow())]
+        self._tasks = [
+            self._loop.create_task(self._follow()), self._loop.create_task(self._report_viewers())
+        ]
         if self._token is not None:
             self._tasks.append(self._loop.create_task(self._send_input(self._token)))
 
@@ -66,33 +113,42 @@ class Relay(Audience):
     # ---- what the server publishes
 
     async def _follow(self) -> None:
-        delay = _FIRST_DELAY
+        delays = Delays()
         while self.status is None:
             try:
-                # Redis may have lost the stream, and may have begun it again with smaller places:
-                # it is read from its beginning. What is known already is skipped.
-                place, self._is_caught_up = b"0-0", False
+                # Redis may have lost the streams, and may have begun them again with smaller
+                # places: they are read from the beginning. What is known already is skipped.
+                self._places = {self._name: _START, self._rows_name: _START}
+                self._is_caught_up = False
                 while self.status is None:
-                    place = await self._read(place)
+                    await self._read()
                     self._loss.found()
-                    delay = _FIRST_DELAY
+                    delays.reset()
             except self._redis.errors as error:
                 self._loss.lost(error)
                 self._heard = _NEVER
                 self._refresh()
-                await asyncio.sleep(delay)
-                delay = min(2 * delay, _LONGEST_DELAY)
+                await asyncio.sleep(delays.next())
 
-    async def _read(self, place: bytes) -> bytes:
-        """Reads entries after a place. Returns the place of the last one."""
-        entries = await self._redis.read(self._name, place)
-        for place, fields in entries:
-            if self.status is None:
+    async def _read(self) -> None:
+        """Reads entries, and shows what they contain."""
+        # The end comes after all rows, but a read that has waited for it does not return them.
+        is_over = self._end is not None
+        found = await self._redis.read(self._places, not is_over)
+        entries, rows = found[self._name], found[self._rows_name]
+        for self._places[self._name], fields in entries:
+            if self._end is None:
                 self._take(fields)
+        must_reread = self._rows_known.begin(self._run)
+        for self._places[self._rows_name], fields in rows:
+            self._rows_known.take(fields)
+        if must_reread:
+            self._places[self._rows_name] = _START
         if len(entries) < READ_COUNT:
             self._is_caught_up = True
         self._refresh()
-        return place
+        if is_over and self._end is not None and len(rows) < READ_COUNT and not must_reread:
+            self._finish(self._end)
 
     def _take(self, fields: Dict[bytes, bytes]) -> None:
         """Takes an entry. After one that no server writes, and where one is missing, the relay
@@ -128,26 +184,49 @@ class Relay(Audience):
         elif entry.kind == stream.TITLE:
             self.set_title(entry.body)
         elif entry.kind == stream.END:
-            status = stream.status_of(entry.body)
+            self._end = stream.status_of(entry.body)
             self._set_stale(False)
-            self._finish(status)
+        elif entry.kind == stream.COUNTS:
+            self._total = stream.counts_of(entry.body)
+            self._count()
         elif entry.kind == stream.GONE:
             self._heard = _NEVER
 
     def _refresh(self) -> None:
         """Shows viewers what has changed, once all that is in the stream has been read."""
-        if self.status is not None or not self._is_caught_up:
+        if not self._is_caught_up:
             return
         is_live = self._is_in_step and self._loop.time() - self._heard < stream.STALE_AFTER
-        if self.notes.is_stale == is_live:
+        if self.notes.is_stale == is_live and self._end is None:
             self._set_stale(not is_live)
             if not self._loss.is_lost:
                 self._report(_LIVE if is_live else _STALE)
             self._schedule()
-        shown = self.cohort.version, self.notes.title_number
+        shown = self.cohort.version, self.notes.title_number, self.cohort.history.end
         if self.cohort.has_changed or shown != self._shown:
             self._shown = shown
             self._schedule()
+
+    # ---- how many viewers there are
+
+    def _all_counts(self) -> Tuple[int, int]:
+        """Returns the numbers that the server has published: they contain those of this relay, or
+        will soon."""
+        (viewers, writers), own = self._total, self.own_counts
+        return max(viewers, own[0]), max(writers, own[1])
+
+    async def _report_viewers(self) -> None:
+        name, beat = stream.viewers_name(self._name), 0
+        try:
+            while True:
+                beat += 1
+                value = stream.report(beat, *self.own_counts)
+                with contextlib.suppress(*self._redis.errors):
+                    await self._redis.client.hset(name, self._relay, value)
+                await asyncio.sleep(stream.COUNT_GAP)
+        finally:
+            with contextlib.suppress(*self._redis.errors):
+                await self._redis.client.hdel(name, self._relay)
 
     def _set_stale(self, is_stale: bool) -> None:
         self.notes = self.notes._replace(is_stale=is_stale)

@@ -3,7 +3,7 @@
 from __future__ import annotations
 
 import asyncio
-from typing import Callable, Dict, Iterator, List, Optional
+from typing import Callable, Dict, Iterator, List, Optional, Tuple
 
 from ..replies import Replies
 from ..screen import Screen
@@ -73,6 +73,7 @@ class Audience:
         #: What viewers get besides the screen. Each change makes it another object.
         self.notes = Notes()
         self._writer_count = 0
+        self._elsewhere = 0, 0
         self._is_counting = False
         self._counted = 0.0
         self._loop = asyncio.get_running_loop()
@@ -87,6 +88,11 @@ class Audience:
         self.listen(self._rows.wake)
 
     # ---- viewers
+
+    @property
+    def is_stale(self) -> bool:
+        """Whether the screen may be older than that of the program."""
+        return self.notes.is_stale
 
     @property
     def viewer_count(self) -> int:
@@ -180,9 +186,24 @@ class Audience:
             wait = self._counted + COUNT_GAP - self._loop.time()
             self._loop.call_later(max(0.0, wait), self._send_counts)
 
+    @property
+    def own_counts(self) -> Tuple[int, int]:
+        """How many viewers this server has, and how many of them may type."""
+        return len(self._viewers), self._writer_count
+
+    def count_elsewhere(self, viewers: int, writers: int) -> None:
+        """Adds the viewers that other servers have to the numbers that viewers see."""
+        if (viewers, writers) != self._elsewhere:
+            self._elsewhere = viewers, writers
+            self._count()
+
+    def _all_counts(self) -> Tuple[int, int]:
+        viewers, writers = self._elsewhere
+        return len(self._viewers) + viewers, self._writer_count + writers
+
     def _send_counts(self) -> None:
         self._is_counting = False
-        counts = len(self._viewers), self._writer_count
+        counts = self._all_counts()
         if counts != self.notes.counts:
             self.notes, self._counted = self.notes._replace(counts=counts), self._loop.time()
             self._schedule()

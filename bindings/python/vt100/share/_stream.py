@@ -1,4 +1,4 @@
-"""The two streams in Redis by which a server and its relays exchange messages.
+"""The keys in Redis by which a server and its relays exchange messages.
 
 The server writes to the stream NAME. The fields of an entry are
 
@@ -13,11 +13,22 @@ and the messages are
     F rows(2) cols(2) text   a new terminal of this size reads the text
     D text                   the terminal reads the text
     T title                  the title of the window; follows each keyframe
+    V viewers(4) writers(4)  how many viewers there are, with those of all relays, and how many of
+                             them may type; follows each keyframe
     X digits                 the program has ended with this status; the last message
     P                        the server runs; sent if there is nothing else
     G                        the server ends, but not the program
 
 The stream begins with a keyframe: older entries are removed.
+
+The server writes to the stream NAME:rows the rows that have scrolled off and that it keeps. The
+fields of an entry are
+
+    run      which server
+    number   decimal: the number of the first row. If it is greater than that of the next row, the
+             rows before are no longer kept
+    limit    decimal: how many rows are kept
+    rows     length(4) text of each row: see `_messages.py`. There may be none
 
 The relays write to the stream NAME:input what their viewers type. The fields of an entry are
 
@@ -27,6 +38,10 @@ The relays write to the stream NAME:input what their viewers type. The fields of
     text     what was typed
     proof    HMAC-SHA256 of the fields before, in this order, each followed by a line feed, with the
              relays' token as the key, in hexadecimal
+
+Each relay writes to the hash NAME:viewers once a second. The field is the relay, and the value is
+three decimal numbers, separated by spaces: one that is different each time, how many viewers the
+relay has, and how many of them may type.
 
 Numbers in messages are big-endian. The key NAME:owner contains the `run` of the server to which the
 stream belongs: the one that started last.
@@ -38,12 +53,20 @@ import hashlib
 import hmac
 import re
 import struct
-from typing import Dict, NamedTuple, Optional, Tuple
+from typing import Dict, List, NamedTuple, Optional, Tuple
 
 from ._messages import MAX_COLS, MAX_ROWS
 
-KEYFRAME, REDRAW, UPDATE, TITLE, END, ALIVE, GONE = b"K", b"F", b"D", b"T", b"X", b"P", b"G"
-_KINDS = b"KFDTXPG"
+KEYFRAME, REDRAW, UPDATE, TITLE, COUNTS = b"K", b"F", b"D", b"T", b"V"
+END, ALIVE, GONE = b"X", b"P", b"G"
+_KINDS = b"KFDTVXPG"
+
+#: How often a relay says how many viewers it has, and after how long without that it has none, in
+#: seconds.
+COUNT_GAP, UNCOUNTED_AFTER = 1.0, 4.0
+
+#: About how many bytes of rows are in an entry.
+ROWS_SIZE = 1 << 16
 
 #: How often a server that has nothing else to publish says that it runs, in seconds.
 ALIVE_GAP = 1.0
@@ -57,7 +80,10 @@ MAX_INPUT, INPUT_KEPT = 4096, 1000
 _RUN = re.compile(rb"[0-9a-f]{16}\Z")
 _NUMBER = re.compile(rb"[0-9]{1,18}\Z")
 _STATUS = re.compile(rb"[0-9]{1,3}\Z")
+_REPORT = re.compile(rb"([0-9]{1,18}) ([0-9]{1,6}) ([0-9]{1,6})\Z")
 _SIZE = struct.Struct(">HH")
+_COUNTS = struct.Struct(">II")
+_LENGTH = struct.Struct(">I")
 
 
 class Malformed(Exception):
@@ -71,6 +97,23 @@ class Entry(NamedTuple):
     number: int
     kind: bytes
     body: bytes
+
+
+class RowsEntry(NamedTuple):
+    """An entry of the stream NAME:rows."""
+
+    run: bytes
+    number: int
+    limit: int
+    rows: List[bytes]
+
+
+class Report(NamedTuple):
+    """A value of the hash NAME:viewers."""
+
+    beat: int
+    viewers: int
+    writers: int
 
 
 class Typed(NamedTuple):
@@ -89,6 +132,19 @@ def owner_name(name: str) -> str:
     return name + ":owner"
 
 
+def rows_name(name: str) -> str:
+    return name + ":rows"
+
+
+def viewers_name(name: str) -> str:
+    return name + ":viewers"
+
+
+def names(name: str) -> List[str]:
+    """Returns all keys of a stream."""
+    return [name, *(of(name) for of in (input_name, owner_name, rows_name, viewers_name))]
+
+
 def _field(fields: Dict[bytes, bytes], name: bytes) -> bytes:
     value = fields.get(name)
     if not isinstance(value, bytes):
@@ -103,10 +159,10 @@ def _run(fields: Dict[bytes, bytes], name: bytes) -> bytes:
     return value
 
 
-def _number(fields: Dict[bytes, bytes]) -> int:
-    value = _field(fields, b"number")
+def _number(fields: Dict[bytes, bytes], name: bytes = b"number") -> int:
+    value = _field(fields, name)
     if _NUMBER.match(value) is None:
-        raise Malformed(b"number")
+        raise Malformed(name)
     return int(value)
 
 
@@ -134,6 +190,49 @@ def status_of(body: bytes) -> int:
     if _STATUS.match(body) is None:
         raise Malformed(b"message")
     return int(body)
+
+
+def counts_of(body: bytes) -> Tuple[int, int]:
+    """Returns the numbers in the message about viewers. Raises `Malformed`."""
+    if len(body) != _COUNTS.size:
+        raise Malformed(b"message")
+    viewers, writers = _COUNTS.unpack(body)
+    return viewers, writers
+
+
+def rows_fields(run: bytes, number: int, limit: int, rows: List[bytes]) -> Dict[bytes, bytes]:
+    """Returns the fields of an entry of the stream NAME:rows."""
+    text = b"".join(_LENGTH.pack(len(row)) + row for row in rows)
+    return {b"run": run, b"number": b"%d" % number, b"limit": b"%d" % limit, b"rows": text}
+
+
+def rows_of(fields: Dict[bytes, bytes]) -> RowsEntry:
+    """Returns an entry of the stream NAME:rows. Raises `Malformed`."""
+    text, at, rows = _field(fields, b"rows"), 0, []
+    while at < len(text):
+        if len(text) - at < _LENGTH.size:
+            raise Malformed(b"rows")
+        (length,) = _LENGTH.unpack_from(text, at)
+        at += _LENGTH.size
+        rows.append(text[at : at + length])
+        at += length
+    if at > len(text):
+        raise Malformed(b"rows")
+    limit = _number(fields, b"limit")
+    return RowsEntry(_run(fields, b"run"), _number(fields), limit, rows)
+
+
+def report(beat: int, viewers: int, writers: int) -> bytes:
+    """Returns a value of the hash NAME:viewers."""
+    return b"%d %d %d" % (beat, viewers, writers)
+
+
+def report_of(value: bytes) -> Report:
+    """Returns what a value of the hash NAME:viewers says. Raises `Malformed`."""
+    found = _REPORT.match(value)
+    if found is None:
+        raise Malformed(b"viewers")
+    return Report(*map(int, found.groups()))
 
 
 def _proof(token: bytes, *fields: bytes) -> bytes:

@@ -125,7 +125,8 @@ export class Connection {
     }
     this.#display.status("old", "Not connected: this screen may be old. Connecting again…");
     this.#isWaiting = true;
-    setTimeout(() => this.#isWaiting && this.#connect(), this.#delay);
+    // At random, so that not all who have lost their connections at a time return at a time.
+    setTimeout(() => this.#isWaiting && this.#connect(), this.#delay * (0.5 + Math.random()));
     this.#delay = Math.min(2 * this.#delay, LONGEST_DELAY);
   }
 }
