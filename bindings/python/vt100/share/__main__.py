@@ -49,24 +49,35 @@ def _row_count(text: str) -> int:
     return int(text)
 
 
-def _arguments(given: Optional[List[str]]) -> argparse.Namespace:
+def _parser() -> argparse.ArgumentParser:
     parser = argparse.ArgumentParser(
-        prog="vt100-share", description="Shows a running program to viewers in browsers."
+        prog="vt100-share",
+        usage="vt100-share [OPTIONS] -- COMMAND..\n"
+        "       vt100-share [OPTIONS] --play FILE.cast\n"
+        "       vt100-share relay [OPTIONS] URL",
+        description="Shows a running program to viewers in browsers.",
+        epilog="vt100-share relay --help describes the options of relays.",
     )
     add = parser.add_argument
     _add_server_options(parser)
     add("--write", action="store_true", help="print a second address, whose readers may type")
     add("--size", type=_size, metavar="ROWSxCOLS",
-        help="the size of the program's terminal (default: that of this terminal)")
+        help="the size of the program's terminal (default: that of this terminal, or 24x80)")
     add("--scrollback", type=_row_count, default=0, metavar="N",
-        help="let viewers scroll back by N rows (default: 0)")
+        help=f"let viewers scroll back by N rows, at most {MAX_SCROLLBACK} (default: 0)")
     add("--headless", action="store_true", help="do not show the program in this terminal")
     add("--record", metavar="FILE.cast", help="record the output, for asciinema and other players")
     add("--play", metavar="FILE.cast", help="play a recording instead of running a program")
-    add("--speed", type=_speed, default=1.0, metavar="N", help="play N times as fast")
+    add("--speed", type=_speed, default=1.0, metavar="N",
+        help="play N times as fast, from 0.001 to 1000 (default: 1)")
     add("--publish", metavar="URL", help="also publish to relays, through the Redis server at URL")
     _add_stream(parser)
     add("command", nargs="*", metavar="COMMAND", help="the program and its arguments")
+    return parser
+
+
+def _arguments(given: Optional[List[str]]) -> argparse.Namespace:
+    parser = _parser()
     options = parser.parse_args(given)
     if (options.play is None) == (not options.command):
         parser.error("either COMMAND or --play FILE.cast is required")
@@ -75,9 +86,11 @@ def _arguments(given: Optional[List[str]]) -> argparse.Namespace:
     return options
 
 
-def _relay_arguments(given: List[str]) -> argparse.Namespace:
+def _relay_parser() -> argparse.ArgumentParser:
     parser = argparse.ArgumentParser(
-        prog="vt100-share relay", description="Shows what another server publishes to viewers."
+        prog="vt100-share relay",
+        usage="vt100-share relay [OPTIONS] URL",
+        description="Shows what another server publishes to viewers in browsers.",
     )
     _add_server_options(parser)
     parser.add_argument("--write", action="store_true",
@@ -85,18 +98,20 @@ def _relay_arguments(given: List[str]) -> argparse.Namespace:
         "the server accepts")
     _add_stream(parser)
     parser.add_argument("url", metavar="URL", help="the address of the Redis server")
-    return parser.parse_args(given)
+    return parser
 
 
 def _add_server_options(parser: argparse.ArgumentParser) -> None:
     add = parser.add_argument
-    add("--host", default="127.0.0.1", help="the address to listen on (default: 127.0.0.1)")
-    add("--port", type=int, default=0, help="the port to listen on (default: any)")
+    add("--host", default="127.0.0.1", metavar="HOST",
+        help="the address to listen on (default: 127.0.0.1)")
+    add("--port", type=int, default=0, metavar="PORT", help="the port to listen on (default: any)")
     add("--public", action="append", default=[], metavar="URL",
-        help="an address by which a reverse proxy serves this server; may be repeated")
-    add("--viewers", type=int, default=1000, metavar="N", help="allow N viewers (default: 1000)")
+        help="an address by which a reverse proxy serves the page; may be repeated")
+    add("--viewers", type=int, default=1000, metavar="N",
+        help="how many viewers may watch at a time (default: 1000)")
     add("--linger", type=float, default=0.0, metavar="SECONDS",
-        help="how long to show the last screen after the program has ended")
+        help="how long to show the last screen after the program has ended (default: 0)")
     add("--page", metavar="FOLDER", default=os.environ.get("VT100_PAGE"),
         help="the directory of vt100.wasm and other files of the page (default: $VT100_PAGE)")
 
@@ -216,7 +231,7 @@ def main(given: Optional[List[str]] = None) -> int:
     """Runs the program. Returns the exit status: that of COMMAND, or 2 for a fault."""
     words = sys.argv[1:] if given is None else given
     is_relay = words[:1] == ["relay"]
-    options = _relay_arguments(words[1:]) if is_relay else _arguments(words)
+    options = _relay_parser().parse_args(words[1:]) if is_relay else _arguments(words)
     try:
         return run_loop(_run_relay(options) if is_relay else _run(options))
     except (BadAddress, BadToken, Fault, Missing, NoLibrary) as fault:
