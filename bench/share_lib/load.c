@@ -6,9 +6,10 @@
  * RESTLESS ones leave, stall, join again and send malformed messages at random, until CALM seconds after the start.
  * Creates FOLDER/open when the others are connected. Ends after SECONDS, or when all have seen the end of the program.
  *
- * Writes which message reached which viewer when to FOLDER/arrivals (struct arrival), what terminals have read to
- * FOLDER/messages (number, length, message), and what each viewer has read to FOLDER/viewers (struct figures, and the
- * numbers of the messages). Prints counts as JSON.
+ * Writes which message reached the socket of which viewer when, and when it was read, to FOLDER/arrivals (struct
+ * arrival), what terminals have read to FOLDER/messages (number, length, message), and what each viewer has read to
+ * FOLDER/viewers (struct figures, and the numbers of the messages). Prints counts, and its own processor time in
+ * milliseconds, as JSON.
  */
 #define _GNU_SOURCE
 #include <arpa/inet.h>
@@ -29,7 +30,7 @@ enum state { AWAY, CONNECTING, HANDSHAKE, OPEN, GONE };
 
 /* A message. `data` is there while a terminal has read it. */
 struct slot { uint64_t key; uint32_t len, refs; uint8_t *data; };
-struct arrival { uint64_t key, time; uint32_t viewer, is_first; };
+struct arrival { uint64_t key, arrived, read; uint32_t viewer, is_first; };
 struct figures { uint64_t bytes, updates; uint32_t has_end, seen_count; };
 struct viewer {
     int fd, is_slow, is_restless, is_doomed, has_screen;
@@ -45,13 +46,24 @@ struct viewer {
 static struct slot *slots;
 static FILE *arrivals;
 static uint64_t gone, refused, cut_off, spared, left, stalls;
+static uint64_t offset; /* of the clock of the system, by which packets are stamped, to that of now() */
 static int poll_fd, port, joining, packs;
 static const char *token;
+
+static uint64_t nanoseconds(const struct timespec *time) {
+    return (uint64_t)time->tv_sec * 1000000000 + (uint64_t)time->tv_nsec;
+}
 
 static uint64_t now(void) {
     struct timespec time;
     clock_gettime(CLOCK_MONOTONIC, &time);
-    return (uint64_t)time.tv_sec * 1000000000 + (uint64_t)time.tv_nsec;
+    return nanoseconds(&time);
+}
+
+static void compare_clocks(void) {
+    struct timespec time;
+    clock_gettime(CLOCK_REALTIME, &time);
+    offset = nanoseconds(&time) - now();
 }
 
 /* Returns the slot of a message. */
@@ -72,10 +84,10 @@ static void forget(struct viewer *viewer) {
 }
 
 /* Takes a message that changes the screen of a viewer, and arrived as `packed_len` bytes. */
-static void take_screen(struct viewer *viewer, const uint8_t *message, size_t len, size_t packed_len, uint64_t time) {
+static void take_screen(struct viewer *viewer, const uint8_t *message, size_t len, size_t packed_len, uint64_t arrived) {
     struct figures *figures = &viewer->figures;
     uint64_t key = (uint64_t)len << 32 | crc32(0, message, (uInt)len);
-    struct arrival arrival = {key, time, viewer->number, !viewer->has_screen};
+    struct arrival arrival = {key, arrived, now(), viewer->number, !viewer->has_screen};
     struct slot *slot = slot_of(key);
     if (!viewer->is_restless) fwrite(&arrival, sizeof arrival, 1, arrivals);
     if (message[0] == 'F') forget(viewer);
@@ -118,6 +130,7 @@ static void join(struct viewer *viewer) {
     viewer->state = CONNECTING;
     joining++;
     setsockopt(viewer->fd, IPPROTO_TCP, TCP_NODELAY, &one, sizeof one);
+    setsockopt(viewer->fd, SOL_SOCKET, SO_TIMESTAMPNS, &one, sizeof one);
     if (viewer->is_slow) setsockopt(viewer->fd, SOL_SOCKET, SO_RCVBUF, &small, sizeof small);
     if (connect(viewer->fd, (void *)&address, sizeof address) < 0 && errno != EINPROGRESS) hang_up(viewer);
     else watch(viewer, EPOLL_CTL_ADD, EPOLLOUT);
@@ -179,7 +192,7 @@ static size_t take_response(struct viewer *viewer) {
 }
 
 /* Reads a frame. Returns its length, or 0 if it is incomplete. */
-static size_t take_frame(struct viewer *viewer, const uint8_t *frame, size_t len, uint64_t time) {
+static size_t take_frame(struct viewer *viewer, const uint8_t *frame, size_t len, uint64_t arrived) {
     if (len < 2) return 0;
     size_t count = frame[1] & 127, head = count == 126 ? 4 : count == 127 ? 10 : 2;
     if (len < head) return 0;
@@ -190,32 +203,45 @@ static size_t take_frame(struct viewer *viewer, const uint8_t *frame, size_t len
     const uint8_t *message = frame[0] == 0xc2 ? unpacked : frame + head;
     size_t message_len = frame[0] == 0xc2 ? unpack(frame + head, count, unpacked, sizeof unpacked) : count;
     int kind = (frame[0] & 0xbf) == 0x82 && message_len > 0 ? message[0] : 0;
-    if (kind == 'F' || kind == 'D') take_screen(viewer, message, message_len, count, time);
+    if (kind == 'F' || kind == 'D') take_screen(viewer, message, message_len, count, arrived);
     viewer->figures.has_end |= kind == 'X';
     if (frame[0] == 0x88) hang_up(viewer);
     if (frame[0] == 0x89) transmit(viewer, "\x8a\x80\0\0\0\0", 6); /* a ping */
     return head + count;
 }
 
-static void take_input(struct viewer *viewer) {
-    uint64_t time = now();
+static void take_input(struct viewer *viewer, uint64_t arrived) {
     size_t at = viewer->state == HANDSHAKE ? take_response(viewer) : 0, more = 1;
     for (; viewer->state == OPEN && more > 0; at += more)
-        more = take_frame(viewer, viewer->input + at, viewer->len - at, time);
+        more = take_frame(viewer, viewer->input + at, viewer->len - at, arrived);
     if (viewer->fd < 0) return;
     memmove(viewer->input, viewer->input + at, viewer->len -= at);
     if (viewer->read - viewer->acknowledged >= ACKNOWLEDGE_AFTER) acknowledge(viewer);
+}
+
+/* Returns when the system has got the last of the bytes of a message. */
+static uint64_t arrival_of(struct msghdr *message) {
+    struct timespec time;
+    for (struct cmsghdr *one = CMSG_FIRSTHDR(message); one != NULL; one = CMSG_NXTHDR(message, one))
+        if (one->cmsg_level == SOL_SOCKET && one->cmsg_type == SCM_TIMESTAMPNS) {
+            memcpy(&time, CMSG_DATA(one), sizeof time);
+            return nanoseconds(&time) - offset;
+        }
+    return now();
 }
 
 /* Reads at most `most` bytes. Returns how many it has read. */
 static size_t receive(struct viewer *viewer, size_t most) {
     if (viewer->room - viewer->len < most)
         viewer->input = realloc(viewer->input, viewer->room = viewer->len + most);
-    ssize_t got = recv(viewer->fd, viewer->input + viewer->len, most, 0);
+    char control[256];
+    struct iovec room = {viewer->input + viewer->len, most};
+    struct msghdr message = {.msg_iov = &room, .msg_iovlen = 1, .msg_control = control, .msg_controllen = sizeof control};
+    ssize_t got = recvmsg(viewer->fd, &message, 0);
     if (got == 0 || (got < 0 && errno != EAGAIN)) hang_up(viewer);
     if (got <= 0) return 0;
     viewer->len += (size_t)got;
-    take_input(viewer);
+    take_input(viewer, arrival_of(&message));
     return (size_t)got;
 }
 
@@ -282,6 +308,7 @@ int main(int argc, char **argv) {
     struct epoll_event events[1024];
     slots = calloc(SLOTS, sizeof *slots);
     poll_fd = epoll_create1(0), arrivals = fopen("arrivals", "w");
+    compare_clocks();
     for (int k = 0; k < count; k++) {
         viewers[k].fd = -1, viewers[k].number = (uint32_t)k;
         viewers[k].is_slow = k >= count - slow - late && k < count - late;
@@ -298,6 +325,7 @@ int main(int argc, char **argv) {
         }
         for (int k = 0; k < restless && is_open; k++) act(&viewers[k], time, time > calm);
         if (time - last >= 50000000) {
+            compare_clocks();
             for (int k = count - late - slow; k < count - late; k++)
                 serve_slow(&viewers[k], (time - last) * SLOW_RATE / 1000000000);
             last = time;
@@ -305,7 +333,7 @@ int main(int argc, char **argv) {
         if (!is_open && next >= count - late && joining == 0) is_open = 1, close(open("open", O_CREAT, 0644));
     }
     write_seen(viewers, count);
-    printf("{\"refused\": %lu, \"left\": %lu, \"stalls\": %lu, \"cut_off\": %lu, \"spared\": %lu}\n",
-        refused, left, stalls, cut_off, spared);
+    printf("{\"refused\": %lu, \"left\": %lu, \"stalls\": %lu, \"cut_off\": %lu, \"spared\": %lu, \"load_ms\": %lu}\n",
+        refused, left, stalls, cut_off, spared, (unsigned long)(clock() / (CLOCKS_PER_SEC / 1000)));
     return 0;
 }

@@ -4,6 +4,7 @@ KIND is `rounds`, or `broadcast` for a server that sends each viewer all output 
 FOLDER/address, the time of each message to FOLDER/log, and the last screen and the numbers of open files before and
 after to FOLDER/final.
 """
+import asyncio
 import json
 import os
 import struct
@@ -78,6 +79,15 @@ class Broadcast(_share.Share):
             viewer.send(_messages.ended(self.status))
 
 
+async def connect_once(server, port):
+    """Has the event loop open what it opens with the first connection."""
+    _, writer = await asyncio.open_connection("127.0.0.1", port)
+    writer.close()
+    await writer.wait_closed()
+    while server.connections:
+        await asyncio.sleep(0.01)
+
+
 def open_files():
     return len(os.listdir("/proc/self/fd"))
 
@@ -86,6 +96,7 @@ async def serve(kind, viewers, arguments):
     tokens = _viewers.Tokens(False)
     server = _server.Server(_site.Site({}, "127.0.0.1", []), tokens, viewers)
     port = await server.start("127.0.0.1", 0)
+    await connect_once(server, port)
     program = Program([sys.executable, os.path.join(HERE, "play.py"), *arguments], 24, 80)
     share = server.share = (Broadcast if kind == "broadcast" else _share.Share)(program, 24, 80)
     before = open_files() - 2  # without the terminal and the socket that listens

@@ -185,7 +185,7 @@ class Rights(unittest.TestCase):
                     for place in (shared, relay, typing):
                         self.assertEqual([x for x in place.reports if "again" in x], [])
                     # A relay that only shows can neither write to the stream nor type.
-                    for key in (name, name + ":input"):
+                    for key in (name, name + ":rows", name + ":input"):
                         client = relaying.client_of(server, "relay:secret")
                         with self.assertRaises(client.errors):
                             await client.client.xadd(key, {"a": "b"})

@@ -28,6 +28,7 @@ from ._run import Fault, Run, say
 from ._server import NoLibrary
 from ._share import Audience, Share
 from ._site import Missing, Site, page_files
+from ._stream import rows_name
 from ._viewers import BadToken, Tokens, new_token, token_from
 
 #: The environment variable with the token by which relays type.
@@ -194,7 +195,7 @@ async def _redis(url: str, name: str) -> Redis:
     """Returns the Redis server, which has been reached."""
     redis = Redis(url)
     try:
-        await redis.check(name)
+        await redis.check(name, rows_name(name))
     except redis.errors as error:
         raise Fault(text_of(redis, error)) from None
     finally:

@@ -58,10 +58,10 @@ class Redis:
         exceptions: Any = importlib.import_module("redis.exceptions")
         self.errors = (exceptions.RedisError, OSError, EOFError, asyncio.TimeoutError)
 
-    async def check(self, name: str) -> None:
-        """Raises one of `errors` unless the server can be reached and `name` is free or a
-        stream."""
-        await self.client.xread({name: "0-0"}, count=1)
+    async def check(self, *names: str) -> None:
+        """Raises one of `errors` unless the server can be reached, and each name is free or a stream
+        that may be read."""
+        await self.client.xread({name: "0-0" for name in names}, count=1)
 
     async def read(self, places: Dict[str, bytes], can_wait: bool = True) -> Dict[str, Entries]:
         """Returns the entries of streams after places: at most `READ_COUNT` of each. If there are
