@@ -11,7 +11,7 @@ _BACKLOG = 1024
 
 #: How many connections are accepted before the event loop has its turn, so that many which come at
 #: once do not delay updates.
-_AT_ONCE = 8
+_AT_ONCE = 32
 
 #: How long to accept nothing after the system has refused to, in seconds: if a process may open no
 #: more files, say.
