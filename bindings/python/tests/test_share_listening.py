@@ -115,6 +115,27 @@ class Listening(unittest.TestCase):
 
         self._run(check)
 
+    def test_more_are_accepted_after_a_long_turn_of_the_loop(self):
+        async def check(listener, accepted):
+            now = 100.0
+            with mock.patch.object(listener, "_loop") as loop:
+                loop.time.side_effect = lambda: now
+                waiting = mock.Mock()
+                waiting.accept.side_effect = lambda: (mock.Mock(), None)
+                for passed, count in ((9, 16), (0.02, 16), (0.125, 62), (0.5, 250), (9, 256), (0, 16)):
+                    now += passed
+                    listener._take(waiting)
+                    self.assertEqual(len(accepted), count)
+                    accepted.clear()
+                waiting.accept.side_effect = BlockingIOError
+                listener._take(waiting)
+                waiting.accept.side_effect = lambda: (mock.Mock(), None)
+                now += 9
+                listener._take(waiting)
+                self.assertEqual(len(accepted), 16)
+
+        self._run(check)
+
     def test_it_listens_again_after_the_system_has_refused(self):
         async def check(listener, accepted):
             port = await listener.start("127.0.0.1", 0)

@@ -4,14 +4,14 @@ from __future__ import annotations
 
 import asyncio
 import socket
-from typing import Callable, List
+from typing import Callable, List, Optional
 
 #: How many connections the system keeps until they are accepted, if it allows as many.
 _BACKLOG = 1024
 
 #: How many connections are accepted before the event loop has its turn, so that many which come at
-#: once do not delay updates.
-_AT_ONCE = 32
+#: once do not delay updates: at first, per second while others wait, and at most.
+_AT_ONCE, _RATE, _MOST = 16, 500, 256
 
 #: How long to accept nothing after the system has refused to, in seconds: if a process may open no
 #: more files, say.
@@ -29,6 +29,7 @@ class Listener:
         self._loop = asyncio.get_running_loop()
         self._sockets: List[socket.socket] = []
         self._is_waiting = False
+        self._limited_at: Optional[float] = None  # when the last turn has left connections waiting
 
     async def start(self, host: str, port: int) -> int:
         """Begins to listen on all addresses of `host`. Returns the port, which the system chooses
@@ -53,7 +54,8 @@ class Listener:
         return port
 
     def _take(self, listening: socket.socket) -> None:
-        for _ in range(_AT_ONCE):
+        count, self._limited_at = self._count(), None
+        for _ in range(count):
             if not self._has_room():
                 self._wait()
                 return
@@ -67,6 +69,14 @@ class Listener:
                 return
             connected.setblocking(False)
             self._accept(connected)
+        self._limited_at = self._loop.time()
+
+    def _count(self) -> int:
+        """Returns how many connections to accept: more after a long turn of the event loop."""
+        if self._limited_at is None:
+            return _AT_ONCE
+        passed = self._loop.time() - self._limited_at
+        return min(_MOST, max(_AT_ONCE, int(_RATE * passed)))
 
     def _wait(self) -> None:
         self._is_waiting = True
