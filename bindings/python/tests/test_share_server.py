@@ -9,7 +9,7 @@ import zlib
 from unittest import mock
 
 from sharing import Client, Closed, Shared, needs_websockets
-from vt100.share import _loop, _viewers
+from vt100.share import _loop, _server, _viewers
 from vt100.share._messages import Nonsense
 from vt100.share._sockets import NoLibrary, WebSockets
 
@@ -311,6 +311,78 @@ class Libraries(unittest.TestCase):
         with mock.patch.dict("sys.modules", {"websockets.server": None}):
             with self.assertRaisesRegex(NoLibrary, "^the package websockets is required: [^\n]*$"):
                 WebSockets()
+
+
+@needs_websockets
+class WholeMessages(unittest.TestCase):
+    """Which messages are read without a protocol."""
+
+    def setUp(self):
+        self.sockets = WebSockets()
+
+    def test_binary_messages_in_one_frame(self):
+        for message in (b"", b"a\0\0\1\0", b"i" + b"x" * 200, b"i" + b"y" * 16000):
+            plain, small = frame(BINARY, message), frame(BINARY | COMPRESSED, packed(message))
+            self.assertEqual(self.sockets.message_in(plain, False), message)
+            self.assertEqual(self.sockets.message_in(plain, True), message)
+            self.assertEqual(self.sockets.message_in(small, True), message)
+
+    def test_a_protocol_reads_all_else(self):
+        whole = frame(BINARY, b"i" + b"x" * 200)
+        small = frame(BINARY | COMPRESSED, packed(b"i" * 200))
+        for data in (
+            *(one[:at] for one in (whole, small) for at in range(len(one))),
+            whole + b"x", whole + whole, b"\x82\1x", frame(TEXT, b"x"), frame(PING, b""), frame(8, b""),
+            frame(BINARY, b"x", False), frame(CONTINUATION, b"x"), frame(3, b"x"),
+            frame(BINARY | 0x20, b"x"), frame(BINARY | COMPRESSED, b"\xff\xff"),
+            frame(BINARY | COMPRESSED, packed(b"i" * 20000)), frame(BINARY, b"i" * 20000),
+            frame(BINARY | COMPRESSED, packed(b"x"), False), frame(PING | COMPRESSED, packed(b"x")),
+        ):
+            self.assertIsNone(self.sockets.message_in(data, True), data[:20])
+        self.assertIsNone(self.sockets.message_in(small, False))
+
+
+@needs_websockets
+class Writing(unittest.TestCase):
+    """What a connection writes by itself, and what it leaves to its transport."""
+
+    MESSAGE = b"D" + b"text" * 5
+    FRAME = b"\x82\x15" + MESSAGE
+
+    def _sent(self, written, is_drained=True, is_closing=False):
+        """Has a connection send the message. `written` is what the system call does. Returns its
+        calls, and those of the transport."""
+        transport = mock.Mock()
+        transport.is_closing.return_value = is_closing
+        transport.get_extra_info.return_value.fileno.return_value = 77
+        connection = _server.Connection(mock.Mock(sockets=WebSockets()))
+        connection.connection_made(transport)
+        connection._is_open = True
+        connection._viewer = _viewers.Viewer(False, connection._send)
+        connection._viewer.is_drained = is_drained
+        with mock.patch.object(_server.os, "write", side_effect=written) as write:
+            connection._viewer.send(self.MESSAGE)
+        calls = [call for call in transport.mock_calls if call[0] in ("write", "abort")]
+        return write.mock_calls, calls
+
+    def test_a_socket_that_accepts_all(self):
+        at_once = [mock.call(77, self.FRAME)]
+        self.assertEqual(self._sent([len(self.FRAME)]), (at_once, []))
+
+    def test_the_transport_writes_the_rest(self):
+        at_once = [mock.call(77, self.FRAME)]
+        for written, rest in (([3], self.FRAME[3:]), (BlockingIOError, self.FRAME)):
+            self.assertEqual(self._sent(written), (at_once, [mock.call.write(rest)]))
+
+    def test_a_viewer_that_has_gone(self):
+        _, calls = self._sent(BrokenPipeError)
+        self.assertEqual(calls, [mock.call.abort()])
+
+    def test_what_waits_comes_first(self):
+        self.assertEqual(self._sent([1], is_drained=False), ([], [mock.call.write(self.FRAME)]))
+
+    def test_a_descriptor_that_may_be_another_one_is_not_used(self):
+        self.assertEqual(self._sent([1], is_closing=True), ([], []))
 
 
 if __name__ == "__main__":
