@@ -84,7 +84,8 @@ static void forget(struct viewer *viewer) {
 }
 
 /* Takes a message that changes the screen of a viewer, and arrived as `packed_len` bytes. */
-static void take_screen(struct viewer *viewer, const uint8_t *message, size_t len, size_t packed_len, uint64_t arrived) {
+static void take_screen(struct viewer *viewer, const uint8_t *message, size_t len, size_t packed_len,
+                        uint64_t arrived) {
     struct figures *figures = &viewer->figures;
     uint64_t key = (uint64_t)len << 32 | crc32(0, message, (uInt)len);
     struct arrival arrival = {key, arrived, now(), viewer->number, !viewer->has_screen};
@@ -236,7 +237,8 @@ static size_t receive(struct viewer *viewer, size_t most) {
         viewer->input = realloc(viewer->input, viewer->room = viewer->len + most);
     char control[256];
     struct iovec room = {viewer->input + viewer->len, most};
-    struct msghdr message = {.msg_iov = &room, .msg_iovlen = 1, .msg_control = control, .msg_controllen = sizeof control};
+    struct msghdr message = {
+        .msg_iov = &room, .msg_iovlen = 1, .msg_control = control, .msg_controllen = sizeof control};
     ssize_t got = recvmsg(viewer->fd, &message, 0);
     if (got == 0 || (got < 0 && errno != EAGAIN)) hang_up(viewer);
     if (got <= 0) return 0;
