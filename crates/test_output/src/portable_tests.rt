@@ -16,7 +16,7 @@ const PORTABLE: DiffOptions = DiffOptions {
 };
 
 #[rattlefmt::skip]
-const REDRAWN: [Redrawn; 4] = [
+const REDRAWN: [Redrawn; 11] = [
     // A wrap is pending on a row whose last cell is blank. Terminals disagree on where the cursor
     // is then, so it is moved to a position.
     (
@@ -33,6 +33,25 @@ const REDRAWN: [Redrawn; 4] = [
 
     // A blank at the beginning of a row below a wrapped row.
     ((3, 4), 0, &[Text("abcdx\x1b[L")], Portable, "abcd \x1b[2;1H\x1b[X\r\nx\x1b[2;2H"),
+
+    // A heart with U+FE0F, an Indic consonant and vowel sign, and a letter with U+0301: terminals
+    // disagree on their widths, so the next character is placed.
+    ((1, 5), 0, &[Text("\u{2764}\u{fe0f}x")], Portable, "\u{2764}\u{fe0f}\x1b[1;3Hx"),
+    ((1, 5), 0, &[Text("\u{915}\u{93f}x")], Portable, "\u{915}\x1b[1;2H\u{93f}\x1b[1;3Hx"),
+    ((1, 5), 0, &[Text("xe\u{301}")], Portable, "xe\u{301}\x1b[1;3H"),
+
+    // Such a glyph at the end of a row. Terminals may have wrapped already, so CR is not used.
+    ((2, 2), 0, &[Text("ae\u{301}\r\nb")], Portable, "ae\u{301}\x1b[2;1Hb"),
+
+    // Such a glyph at the end of a wrapped row: only the first glyph of the next row follows it.
+    ((2, 2), 0, &[Text("ae\u{301}bc")], Portable, "ae\u{301}b\x1b[2;2Hc"),
+
+    // A wrap is pending below such a glyph, or below a glyph of certain width.
+    (
+        (2, 2), 0, &[Text("ae\u{301}\n")],
+        Portable, "ae\u{301}\x1b[2;2H \x1b7\x1b[2;2H\x1b[X\x1b8",
+    ),
+    ((2, 2), 0, &[Text("ab\n")], Portable, "ab\n"),
 ];
 
 #[test]
@@ -45,7 +64,7 @@ fn portable_redraws_use_no_state_in_which_terminals_disagree(rt: HostRuntime) ->
 }
 
 #[rattlefmt::skip]
-const CHANGED: [Example; 5] = [
+const CHANGED: [Example; 7] = [
     // The three faults of the fixed form.
     (
         (2, 5), 0, &[], &[Text("abcd\r\nxxxxx\x1b[A")],
@@ -62,6 +81,10 @@ const CHANGED: [Example; 5] = [
         (1, 4), 0, &[Text("\u{65e5}b")], &[Text("\x1b[2Gxb")],
         "\x1b[H\x1b[2X\x1b[Cx\x1b[C",
     ),
+
+    // A letter with U+0301: terminals disagree on its width, so what follows is placed.
+    ((2, 5), 0, &[Text("ab")], &[Text("e\u{301}c")], "\x1b[He\u{301}\x1b[1;2Hc"),
+    ((2, 5), 0, &[Text("a")], &[Text("e\u{301}")], "\x1b[He\u{301}\x1b[1;2H"),
 
     // The fixed form is kept where terminals agree.
     ((2, 20), 0, &[], &[Text("----------")], "----------"),

@@ -1,5 +1,5 @@
 -- Runs of glyphs that agree in everything except the bytes of their texts.
-use Rattle.std.proofs.Common.{◌≡◌, ℕ, ◌+◌, ◌-◌, ◌<◌, ◌≤◌, ◌||◌, Bool, true, false, List, [], ◌∷◌, ◌++◌}
+use Rattle.std.proofs.Common.{◌≡◌, ℕ, ◌+◌, ◌-◌, ◌<◌, ◌≤◌, ◌||◌, Bool, true, false, List, [], ◌∷◌, ◌++◌, ◌==◌}
 use Rattle.std.proofs.Common.{length, take, drop, refl, sym, ap, subst, ◌∙◌, ⊎_elim, arith, append_assoc, append-nil}
 use Rattle.std.proofs.lemmas.Bool.{cases_lt}
 use Rattle.std.proofs.lemmas.List.{get_or_default, get_or-drop, get_or-take, length-drop}
@@ -18,11 +18,13 @@ use Rattle.vt_cells.specs.Op.{Print, bytes_of_all}
 use Rattle.vt_cells.proofs.Glyphs.{IsGlyphText-length}
 use Rattle.vt_rows.specs.Cells.{at}
 use Rattle.vt_redraw.specs.Internals.{IsAlike, IsRange, Leads, cells_from}
-use Rattle.vt_redraw.specs.Script.{Scripted, attr_ops_in, move_ops, pen_in, placed_op, wrapped_after_glyph}
+use Rattle.vt_redraw.specs.Script.{Scripted, attr_ops_in, move_ops, pen_in, placed_op, wrapped_after_glyph, pen_past}
 use Rattle.vt_redraw.specs.declared.form.Form.{Form}
 use Rattle.vt_redraw.specs.declared.pen.Pen.{Pen}
 use Rattle.vt_redraw.proofs.CellSteps.{glyph_inside, glyph_leads, leads_then}
 use Rattle.vt_redraw.proofs.Writing.{change_none, going_none}
+use Rattle.vt_redraw.specs.Certain.{is_certain_text}
+use Rattle.vt_redraw.specs.declared.form.Form.TheVariants.{Fixed, Portable}
 
 -- ---- a cell with text
 
@@ -131,7 +133,7 @@ pub alike_leads : (form : Form) (r c n : ℕ) (a : Attrs) (flag then : Bool) (li
     All (λ cell. is_blank cell ≡ true) (drop (length others) ys) → length xs ≤ length ys →
     n ≡ glyph_columns (is_wide like) → new ≡ old ++ text_of (at own c) →
     then ≡ wrapped_after_glyph flag (is_wide like) (drop (c + n) ys) →
-    Leads (buffered_text text new) (cells_from r (c + n) (pen_in form r (c + n) a) then xs ys)
+    Leads (buffered_text text new) (cells_from r (c + n) (pen_past form r (c + n) a (text_of (at own c))) then xs ys)
     (buffered_text text old) (cells_from r c (pen_in form r c a) flag xs ys)
 alike_leads form r c n a flag then like own others xs ys text old new alike some drawn is_own inside is_others blanks le
     count pushed flags =
@@ -140,7 +142,7 @@ alike_leads form r c n a flag then like own others xs ys text old new alike some
     let wide : is_wide x ≡ is_wide like = ap (λ head. head.shape.wide) alike.head in
     let columns : n ≡ glyph_columns (is_wide x) = count ∙ ap glyph_columns (sym wide) in
     let within = alike.inside in
-    glyph_leads r c n (pen_in form r c a) (pen_in form r (c + n) a) flag then xs ys x
+    glyph_leads r c n (pen_in form r c a) (pen_past form r (c + n) a (text_of x)) flag then xs ys x
     (buffered_text text old) (buffered_text text new) (own_at c own xs is_own alike.inside)
     (omega arith) le (alike_other c like own others xs ys alike some is_own is_others blanks (omega arith))
     (text_not_blank x (alike_text c like own others alike some)) columns
@@ -149,8 +151,16 @@ alike_leads form r c n a flag then like own others xs ys text old new alike some
     ∙ ap (λ (more : List ℕ). buffered_text text old ++ more)
     (sym (ap (λ (b : Attrs). bytes_of_all (placed_op (pen_in form r c a) r c b (Print (text_of x)))) (sym attrs)
     ∙ printed_again form r c a (text_of x)))))
-    (ap (λ (k : ℕ). pen_in form r (c + k) a) columns ∙ ap (λ (b : Attrs). pen_in form r (c + glyph_columns (is_wide x)) b) attrs)
+    (ap (λ (k : ℕ). pen_past form r (c + k) a (text_of x)) columns
+    ∙ ap (λ (b : Attrs). pen_past form r (c + glyph_columns (is_wide x)) b (text_of x)) attrs)
     (flags ∙ ap (λ (w : Bool). wrapped_after_glyph flag w (drop (c + n) ys)) (sym wide))
+
+-- Terminals agree on where the cursor is after a glyph of one byte.
+pub short_past : (form : Form) (r c : ℕ) (a : Attrs) (text : List ℕ) → length text ≡ 1 →
+    pen_past form r c a text ≡ pen_in form r c a
+short_past Fixed r c a text e = refl
+short_past Portable r c a text e =
+    ap (λ (n : ℕ). record (pen_in Portable r c a) { is_shifted = not ((n == 1) || is_certain_text text) }) e
 
 -- A narrow glyph leaves the wrapped flag unchanged.
 pub narrow_keeps : (flag wide : Bool) (rest : List CellValue) → wide ≡ false → flag ≡ wrapped_after_glyph flag wide rest

@@ -17,7 +17,7 @@ use Rattle.vt_cells.proofs.SameCells.{same_cell-itself}
 use Rattle.vt_redraw.specs.Internals.{Leads, IsRange, Passes, cells_from}
 use Rattle.vt_redraw.proofs.Filling.{room}
 use Rattle.vt_cells.specs.Glyph.{glyph_columns}
-use Rattle.vt_redraw.specs.Script.{Scripted, ops_then, no_ops, placed_op, blank_run, pen_in}
+use Rattle.vt_redraw.specs.Script.{Scripted, ops_then, no_ops, placed_op, blank_run, pen_in, pen_past}
 use Rattle.vt_redraw.specs.Script.{cells_written, erase_run, wrapped_after_erasure, wrapped_after_glyph}
 use Rattle.vt_redraw.specs.declared.pen.Pen.{Pen}
 
@@ -105,7 +105,7 @@ glyph_printed : (r c : ℕ) (pen : Pen) (flag : Bool) (x : CellValue)
     (is_right_half x || same_cell x y) ≡ false → is_blank x ≡ false →
     cells_written r c pen flag 0 (x ∷ xs) (y ∷ ys)
     ≡ ops_then (placed_op pen r c (attrs_of x) (Print (text_of x)))
-    (cells_written r (c + glyph_columns (is_wide x)) (pen_in pen.form r (c + glyph_columns (is_wide x)) (attrs_of x))
+    (cells_written r (c + glyph_columns (is_wide x)) (pen_past pen.form r (c + glyph_columns (is_wide x)) (attrs_of x) (text_of x))
     (wrapped_after_glyph flag (is_wide x) (drop (glyph_columns (is_wide x)) (y ∷ ys))) 0
     (drop (glyph_columns (is_wide x)) (x ∷ xs)) (drop (glyph_columns (is_wide x)) (y ∷ ys)))
 unfolding cells_written
@@ -115,9 +115,9 @@ glyph_printed r c pen flag (glyph text false a) xs y ys h b = cond-false (same_c
 glyph_printed r c pen flag (glyph text true a) xs y ys h b =
     cond-false (same_cell (glyph text true a) y) _ _ h
     ∙ ap (ops_then (placed_op pen r c a (Print text)))
-    (settled_passed r (c + 1) (pen_in pen.form r (c + 2) a) (wrapped_after_glyph flag true (drop 1 ys)) 1 xs ys
+    (settled_passed r (c + 1) (pen_past pen.form r (c + 2) a text) (wrapped_after_glyph flag true (drop 1 ys)) 1 xs ys
     ∙ ap
-    (λ (n : ℕ). cells_written r n (pen_in pen.form r (c + 2) a) (wrapped_after_glyph flag true (drop 1 ys)) 0 (drop 1 xs) (drop 1 ys))
+    (λ (n : ℕ). cells_written r n (pen_past pen.form r (c + 2) a text) (wrapped_after_glyph flag true (drop 1 ys)) 0 (drop 1 xs) (drop 1 ys))
     (omega arith))
 
 run_first : (a : Attrs) (xs : List CellValue) → blank_run a (blank a ∷ xs) ≡ suc (blank_run a xs)
@@ -228,7 +228,7 @@ pub next_glyph : (r c n : ℕ) (pen next : Pen) (flag then : Bool) (xs ys : List
     (is_right_half (at xs c) || same_cell (at xs c) (at ys c)) ≡ false →
     is_blank (at xs c) ≡ false → n ≡ glyph_columns (is_wide (at xs c)) →
     longer ≡ text ++ bytes_of_all (placed_op pen r c (attrs_of (at xs c)) (Print (text_of (at xs c)))) →
-    next ≡ pen_in pen.form r (c + glyph_columns (is_wide (at xs c))) (attrs_of (at xs c)) →
+    next ≡ pen_past pen.form r (c + glyph_columns (is_wide (at xs c))) (attrs_of (at xs c)) (text_of (at xs c)) →
     then ≡ wrapped_after_glyph flag (is_wide (at xs c)) (drop (c + n) ys) →
     Leads longer (cells_from r (c + n) next then xs ys) text (cells_from r c pen flag xs ys)
 next_glyph r c n pen next flag then xs ys text longer h le other b count told pens flags =
@@ -239,11 +239,11 @@ next_glyph r c n pen next flag then xs ys text longer h le other b count told pe
     (at_column r c pen flag xs ys h le
     ∙ (glyph_printed r c pen flag x (drop (c + 1) xs) (at ys c) (drop (c + 1) ys) other b
     ∙ (ap (λ (zs : List CellValue). ops_then ops
-    (cells_written r (c + m) (pen_in pen.form r (c + m) (attrs_of x))
+    (cells_written r (c + m) (pen_past pen.form r (c + m) (attrs_of x) (text_of x))
     (wrapped_after_glyph flag (is_wide x) (drop m (at ys c ∷ drop (c + 1) ys))) 0 zs (drop m (at ys c ∷ drop (c + 1) ys))))
     (behind c m xs h)
     ∙ (ap (λ (zs : List CellValue). ops_then ops
-    (cells_written r (c + m) (pen_in pen.form r (c + m) (attrs_of x)) (wrapped_after_glyph flag (is_wide x) zs) 0 (drop (c + m) xs) zs))
+    (cells_written r (c + m) (pen_past pen.form r (c + m) (attrs_of x) (text_of x)) (wrapped_after_glyph flag (is_wide x) zs) 0 (drop (c + m) xs) zs))
     (behind c m ys (omega arith))
     ∙ (ap (λ (p : Pen). ops_then ops
     (cells_written r (c + m) p (wrapped_after_glyph flag (is_wide x) (drop (c + m) ys)) 0 (drop (c + m) xs) (drop (c + m) ys)))
@@ -321,13 +321,13 @@ pub glyph_leads : (r c n : ℕ) (pen next : Pen) (flag then : Bool)
     (is_right_half (at xs c) || same_cell (at xs c) (at ys c)) ≡ false →
     is_blank x ≡ false → n ≡ glyph_columns (is_wide x) →
     longer ≡ text ++ bytes_of_all (placed_op pen r c (attrs_of x) (Print (text_of x))) →
-    next ≡ pen_in pen.form r (c + glyph_columns (is_wide x)) (attrs_of x) →
+    next ≡ pen_past pen.form r (c + glyph_columns (is_wide x)) (attrs_of x) (text_of x) →
     then ≡ wrapped_after_glyph flag (is_wide x) (drop (c + n) ys) →
     Leads longer (cells_from r (c + n) next then xs ys) text (cells_from r c pen flag xs ys)
 glyph_leads r c n pen next flag then xs ys x text longer e h le other =
     subst (λ (z : CellValue). is_blank z ≡ false → n ≡ glyph_columns (is_wide z) →
     longer ≡ text ++ bytes_of_all (placed_op pen r c (attrs_of z) (Print (text_of z))) →
-    next ≡ pen_in pen.form r (c + glyph_columns (is_wide z)) (attrs_of z) →
+    next ≡ pen_past pen.form r (c + glyph_columns (is_wide z)) (attrs_of z) (text_of z) →
     then ≡ wrapped_after_glyph flag (is_wide z) (drop (c + n) ys) →
     Leads longer (cells_from r (c + n) next then xs ys) text (cells_from r c pen flag xs ys))
     (sym e) (λ b count told pens flags. next_glyph r c n pen next

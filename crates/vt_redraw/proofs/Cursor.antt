@@ -4,7 +4,7 @@ use Rattle.std.proofs.Common.{◌≡◌, ℕ, zero, suc, ◌+◌, ◌-◌, ◌<�
 use Rattle.std.proofs.Common.{◌++◌, length, get_or, replicate, Option, Some, None, refl, sym, ap, ◌∙◌, subst, arith}
 use Rattle.std.specs.Prelude.{if◌then◌else◌}
 use Rattle.std.specs.List.{AllByRecursion}
-use Rattle.std.proofs.lemmas.Bool.{cond_both, lt-ltb, ltb-true, ne_eqb}
+use Rattle.std.proofs.lemmas.Bool.{cond_both, lt-ltb, ltb-true, ne_eqb, and_parts}
 use Rattle.std.proofs.lemmas.Bool.Decides.{nat_tests}
 use Rattle.std.proofs.lemmas.List.{length-append, get_or_at}
 use Rattle.vt_cells.specs.Attrs.{default_attrs, Attrs}
@@ -24,7 +24,7 @@ use Rattle.vt_redraw.specs.Picture.{Saved, with_saved}
 use Rattle.vt_redraw.specs.Script.{after_last_glyph, is_at, last_column}
 use Rattle.vt_redraw.specs.Locality.{placing_row}
 use Rattle.vt_redraw.proofs.Touched.{DrawsIn, in_then, in_to, quiet_in, going_quiet, changing_quiet, feeds_quiet}
-use Rattle.vt_redraw.specs.Redraw.{nearest, blank_passed, over_blank, under_last, pending_at, cursor_written}
+use Rattle.vt_redraw.specs.Redraw.{nearest, blank_passed, over_blank, under_last, pending_at, cursor_written, strays}
 use Rattle.vt_redraw.proofs.Halves.{Paired}
 use Rattle.vt_redraw.proofs.Flags.{ends, ends_is, Sound}
 use Rattle.vt_redraw.proofs.Edits.{row_of, mid}
@@ -33,7 +33,8 @@ use Rattle.vt_redraw.proofs.Spaces.{space_prints}
 use Rattle.vt_redraw.proofs.Link.{erase_last, going_after_draws, print_bare, same_pen}
 use Rattle.vt_redraw.proofs.Rows.{Stands, PrintsRow}
 use Rattle.vt_redraw.proofs.Touched.{back_quiet}
-use Rattle.vt_redraw.specs.declared.form.Form.TheVariants.{Fixed}
+use Rattle.vt_redraw.specs.declared.form.Form.TheVariants.{Fixed, Portable}
+use Rattle.std.proofs.Common.{◌&&◌}
 
 -- ---- rows by index
 
@@ -60,22 +61,25 @@ all_row P (x ∷ xs) (suc n) d h k = all_row P xs n d (omega arith) k.1
 
 abbrev pub NearestIs : ℕ → List RowValue → ℕ → Option ℕ → Type 0
 NearestIs width rows n None = ends_blank (row_or width rows n).cells ≡ true
-NearestIs width rows n (Some i) = (i ≤ n) × (ends_blank (row_or width rows i).cells ≡ false)
+NearestIs width rows n (Some i) =
+    (i ≤ n)
+    × ((ends_blank (row_or width rows i).cells ≡ false) × (i < n → ends_blank (row_or width rows n).cells ≡ true))
 
 nearest_next : (width : ℕ) (rows : List RowValue) (n : ℕ) (found : Option ℕ) →
     ends_blank (row_or width rows (suc n)).cells ≡ true →
     NearestIs width rows n found → NearestIs width rows (suc n) found
 nearest_next width rows n None t h = t
-nearest_next width rows n (Some i) t h = let le = h.0 in (omega arith, h.1)
+nearest_next width rows n (Some i) t h = let le = h.0 in (omega arith, (h.1.0, λ _. t))
 
 pub nearest_is : (width : ℕ) (rows : List RowValue) (n : ℕ) → NearestIs width rows n (nearest width rows n)
 nearest_is width rows zero =
     cond_both (ends_blank (row_or width rows 0).cells) None (Some 0)
-    (NearestIs width rows 0) (λ t. t) (λ t. (omega arith, t))
+    (NearestIs width rows 0) (λ t. t) (λ t. (omega arith, (t, λ lt. absurd (omega (arith, lt)))))
 nearest_is width rows (suc n) =
     cond_both (ends_blank (row_or width rows (suc n)).cells)
     (nearest width rows n) (Some (suc n)) (NearestIs width rows (suc n))
-    (λ t. nearest_next width rows n (nearest width rows n) t (nearest_is width rows n)) (λ t. (omega arith, t))
+    (λ t. nearest_next width rows n (nearest width rows n) t (nearest_is width rows n))
+    (λ t. (omega arith, (t, λ lt. absurd (omega (arith, lt)))))
 
 -- The row's last column is a blank.
 pub record EndsBlank (cells : List CellValue) : Type 0 where
@@ -119,7 +123,7 @@ last_attrs (x ∷ pre) b (suc n) h = last_attrs pre b n (omega arith)
 
 -- ---- the cases
 
-feed_draws : (base : Canvas) (rows : List RowValue) (pen : Pen) (height : ℕ) →
+pub feed_draws : (base : Canvas) (rows : List RowValue) (pen : Pen) (height : ℕ) →
     base.page.bottom + 1 ≡ height → length rows ≡ height → pen.row + 1 < height →
     Draws (LineFeed ∷ []) (at_pen base rows pen) (at_pen base rows (pen_at (pen.row + 1) pen.col pen.attrs))
 unfolding line_feed
@@ -142,7 +146,7 @@ down_draws base rows (suc n) i c height a bottom size h =
     ∙ ap (λ (z : ℕ). Some (at_pen base rows (pen_at z c a))) e)
 
 -- Printing the last glyph of row i makes a wrap pending, and line feeds then move the cursor down to row r.
-under_last_draws : (May : ℕ → ℕ → Type 0) (base : Canvas) (rows : List RowValue) (pen : Pen) (i r height : ℕ) →
+pub under_last_draws : (May : ℕ → ℕ → Type 0) (base : Canvas) (rows : List RowValue) (pen : Pen) (i r height : ℕ) →
     Reads base height base.page.width → length rows ≡ height →
     AllByRecursion (Stands base.page.width) rows → AllByRecursion (PrintsRow base.page.width) rows →
     i ≤ r → r < height → Within pen height base.page.width → ends_blank (row_or base.page.width rows i).cells ≡ false →
@@ -227,7 +231,7 @@ blank_passed_draws May form base done below pre r was b o pos e w h may =
     (quiet_in May (attr_ops_in form b was) m5 m6 (changing_quiet form b was)
     (changing_draws form other (done ++ row_of row false ∷ below) (pen_at r width b) was)))))))
 
-over_blank_draws : (May : ℕ → ℕ → Type 0) (base : Canvas) (done below : List RowValue)
+pub over_blank_draws : (May : ℕ → ℕ → Type 0) (base : Canvas) (done below : List RowValue)
     (pre : List CellValue) (pen : Pen) (r height : ℕ) (b : Attrs) →
     Reads base height base.page.width → length done ≡ r → r + suc (length below) ≡ height →
     length pre + 1 ≡ base.page.width →
@@ -276,18 +280,14 @@ pub off : (wrapped : Bool) (cells : List CellValue) → Sound wrapped cells → 
 off true cells h e = let k = h refl in absurd (cc)
 off false cells h e = refl
 
-pending_draws : (May : ℕ → ℕ → Type 0) (base : Canvas)
-    (rows : List RowValue) (pen : Pen) (r height : ℕ) (found : Option ℕ) →
+-- A wrap is made pending at the end of a row that ends with a blank.
+pending_over : (May : ℕ → ℕ → Type 0) (base : Canvas) (rows : List RowValue) (pen : Pen) (r height : ℕ) →
     Reads base height base.page.width → length rows ≡ height → AllByRecursion (Stands base.page.width) rows →
-    AllByRecursion (PrintsRow base.page.width) rows →
-    r < height → Within pen height base.page.width → NearestIs base.page.width rows r found →
-    ((k : ℕ) → last_column (row_or base.page.width rows (placing_row found r)).cells ≤ k →
-    k < base.page.width → May (placing_row found r) k) →
-    Puts May (pending_at found pen base.page.width rows r) (at_pen base rows pen)
-    (at_pen base rows (pen_at r base.page.width pen.attrs))
-pending_draws May base rows pen r height (Some i) reads size all prints low within near may =
-    (saved_of base, under_last_draws May base rows pen i r height reads size all prints near.0 low within near.1 may)
-pending_draws May base rows pen r height None reads size all prints low within near may =
+    r < height → Within pen height base.page.width → ends_blank (row_or base.page.width rows r).cells ≡ true →
+    ((k : ℕ) → last_column (row_or base.page.width rows r).cells ≤ k → k < base.page.width → May r k) →
+    Puts May (over_blank pen r base.page.width (attrs_of (at (row_or base.page.width rows r).cells (base.page.width - 1))))
+    (at_pen base rows pen) (at_pen base rows (pen_at r base.page.width pen.attrs))
+pending_over May base rows pen r height reads size all low within near may =
     let width = base.page.width in
     let d = blank_row default_attrs width in
     let x = row_or width rows r in
@@ -320,6 +320,35 @@ pending_draws May base rows pen r height None reads size all prints low within n
           (omega arith) k.front within (λ j low high. may j (subst (λ (n : ℕ). n ≤ j) (sym last) low) high))),
     )
 
+-- The operations that are chosen if line feeds must not follow a glyph belong to the portable form.
+strays_portable : (form : Form) (shifted : Bool) → strays form shifted ≡ true → form ≡ Portable
+strays_portable Fixed shifted t = absurd cc
+strays_portable Portable shifted t = refl
+
+pending_draws : (May : ℕ → ℕ → Type 0) (base : Canvas)
+    (rows : List RowValue) (pen : Pen) (r height : ℕ) (found : Option ℕ) →
+    Reads base height base.page.width → length rows ≡ height → AllByRecursion (Stands base.page.width) rows →
+    AllByRecursion (PrintsRow base.page.width) rows →
+    r < height → Within pen height base.page.width → NearestIs base.page.width rows r found →
+    ((k : ℕ) → last_column (row_or base.page.width rows (placing_row found r)).cells ≤ k →
+    k < base.page.width → May (placing_row found r) k) → (pen.form ≡ Portable → (k : ℕ) → May r k) →
+    Puts May (pending_at found pen base.page.width rows r) (at_pen base rows pen)
+    (at_pen base rows (pen_at r base.page.width pen.attrs))
+pending_draws May base rows pen r height (Some i) reads size all prints low within near may any =
+    let width = base.page.width in
+    let cells = (row_or width rows i).cells in
+    let shifted = (after_last_glyph i pen cells).pen.is_shifted in
+    cond_both (strays pen.form shifted && nat_lt i r)
+    (over_blank pen r width (attrs_of (at (row_or width rows r).cells (width - 1)))) (under_last pen i r cells)
+    (λ (ops : List Op). Puts May ops (at_pen base rows pen) (at_pen base rows (pen_at r width pen.attrs)))
+    (λ (t : (strays pen.form shifted && nat_lt i r) ≡ true).
+    let both = and_parts (strays pen.form shifted) (nat_lt i r) t in
+    pending_over May base rows pen r height reads size all low within (near.1.1 (ltb-true i r both.1))
+    (λ k _ _. any (strays_portable pen.form shifted both.0) k))
+    (λ _. (saved_of base, under_last_draws May base rows pen i r height reads size all prints near.0 low within near.1.0 may))
+pending_draws May base rows pen r height None reads size all prints low within near may any =
+    pending_over May base rows pen r height reads size all low within near may
+
 pub cursor_draws : (May : ℕ → ℕ → Type 0) (base : Canvas) (rows : List RowValue) (pen : Pen) (r c height : ℕ) →
     Reads base height base.page.width → length rows ≡ height →
     AllByRecursion (Stands base.page.width) rows → AllByRecursion (PrintsRow base.page.width) rows →
@@ -327,27 +356,28 @@ pub cursor_draws : (May : ℕ → ℕ → Type 0) (base : Canvas) (rows : List R
     (c ≡ base.page.width → (k : ℕ) →
     last_column (row_or base.page.width rows (placing_row (nearest base.page.width rows r) r)).cells ≤ k →
     k < base.page.width → May (placing_row (nearest base.page.width rows r) r) k) →
+    (c ≡ base.page.width → pen.form ≡ Portable → (k : ℕ) → May r k) →
     Puts May (cursor_written pen base.page.width rows r c)
     (at_pen base rows pen) (at_pen base rows (pen_at r c pen.attrs))
 unfolding cursor_written
-cursor_draws May base rows pen r c height reads size all prints low le within may =
+cursor_draws May base rows pen r c height reads size all prints low le within may any =
     let width = base.page.width in
     let start = at_pen base rows pen in
     let P : List Op → Type 0 = λ ops. Puts May ops start (at_pen base rows (pen_at r c pen.attrs)) in
-    let rest = if nat_lt c width then move_ops pen r c else pending_at (nearest width rows r) pen width rows r in
-    cond_both (is_at pen r c) [] rest P
-    (λ (t : is_at pen r c ≡ true).
-    (saved_of base, record { draws = ap (λ (q : Pen). Some (at_pen base rows q)) (same_pen pen r c t); touches = tt }))
-    (λ _. cond_both (nat_lt c width) (move_ops pen r c) (pending_at (nearest width rows r) pen width rows r) P
+    let rest = if is_at pen r c then [] else pending_at (nearest width rows r) pen width rows r in
+    cond_both (nat_lt c width) (move_ops pen r c) rest P
     (λ (t : nat_lt c width ≡ true). (
       saved_of base,
       quiet_in May (move_ops pen r c) start (at_pen base rows (pen_at r c pen.attrs)) (going_quiet pen r c)
           (going_draws base rows pen r c height width reads size within low (ltb-true c width t)),
     ))
-    (λ (t : nat_lt c width ≡ false).
+    (λ (f : nat_lt c width ≡ false). cond_both (is_at pen r c) [] (pending_at (nearest width rows r) pen width rows r) P
+    (λ (t : is_at pen r c ≡ true).
+    (saved_of base, record { draws = ap (λ (q : Pen). Some (at_pen base rows q)) (same_pen pen r c t); touches = tt }))
+    (λ _.
     let whole : width ≡ c = grind (arith, nat_tests) in
     subst (λ (z : ℕ). Puts May (pending_at (nearest width rows r) pen width rows r)
     start (at_pen base rows (pen_at r z pen.attrs)))
     whole
     (pending_draws May base rows pen r height (nearest width rows r) reads
-    size all prints low within (nearest_is width rows r) (may (sym whole)))))
+    size all prints low within (nearest_is width rows r) (may (sym whole)) (any (sym whole)))))

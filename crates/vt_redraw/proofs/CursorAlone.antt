@@ -109,7 +109,7 @@ alone_draws May base rows p r height (Some i) attrs reads size all prints low ne
     let again : DrawsIn May ops m0 m1 =
     subst (λ (z : List RowValue). DrawsIn May ops (at_pen base z pen) (at_pen base z (pen_at i width a))) (sym v.is)
     (printed_again May base v.done v.below x.cells x.wrapped i pen reads.origin v.above ok.columns ok.paired
-    (sym (ends_is x.cells) ∙ near.1) (all_row (PrintsRow width) rows i d (omega arith) prints) may) in
+    (sym (ends_is x.cells) ∙ near.1.0) (all_row (PrintsRow width) rows i d (omega arith) prints) may) in
     let tail = in_then May (attr_ops a default_attrs) (replicate (r - i) LineFeed) m1 m2 m3
     (quiet_in May (attr_ops a default_attrs) m1 m2 (changing_quiet Fixed a default_attrs)
     (changing_draws Fixed base rows (pen_at i width a) default_attrs))

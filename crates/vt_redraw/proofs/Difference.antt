@@ -1,6 +1,6 @@
 -- The difference turns what one canvas displays into another picture: rows, cursor, attributes, and whether the cursor
 -- is hidden.
-use Rattle.std.proofs.Common.{◌≡◌, ℕ, zero, suc, ◌-◌, ◌<◌, ◌≤◌, Bool, true, false, List, [], ◌∷◌}
+use Rattle.std.proofs.Common.{◌≡◌, ℕ, zero, suc, ◌+◌, ◌-◌, ◌<◌, ◌≤◌, Bool, true, false, List, [], ◌∷◌}
 use Rattle.std.proofs.Common.{◌++◌, length, Some, inr, refl, sym, ap, ◌∙◌, subst, arith}
 use Rattle.std.specs.Prelude.{All}
 use Rattle.std.specs.List.{AllByRecursion}
@@ -16,17 +16,20 @@ use Rattle.vt_grid.specs.Page.{IsPlainPage}
 use Rattle.vt_grid.specs.Canvas.{Canvas}
 use Rattle.vt_redraw.specs.Script.{pen_at, attr_ops_in}
 use Rattle.vt_redraw.specs.declared.form.Form.{Form}
-use Rattle.vt_redraw.specs.declared.form.Form.TheVariants.{Fixed}
+use Rattle.vt_redraw.specs.declared.form.Form.TheVariants.{Fixed, Portable}
 use Rattle.vt_grid.proofs.Drawing.{Draws}
 use Rattle.vt_redraw.proofs.Steps.{at_pen, Reads, Within, changing_draws}
 use Rattle.vt_redraw.specs.Picture.{Picture, IsPicture, picture_of, SamePictureSize, Saved, with_saved, with_picture}
 use Rattle.vt_redraw.specs.Steady.{IsSteadyCell, IsSteady}
-use Rattle.vt_redraw.specs.Redraw.{nearest, rows_written, cursor_written, pen_of, script_in, cursor_visibility_ops, difference, difference_in}
+use Rattle.vt_redraw.specs.Redraw.{nearest, rows_written, cursor_written, pen_of, script_in, cursor_visibility_ops}
+use Rattle.vt_redraw.specs.Redraw.{difference, difference_in}
 use Rattle.vt_redraw.proofs.Halves.{Paired, paired_of}
 use Rattle.vt_redraw.proofs.Flags.{ends_is}
 use Rattle.vt_redraw.proofs.Places.{PrintsCells}
 use Rattle.vt_redraw.proofs.Steady.{steady_prints}
-use Rattle.vt_redraw.proofs.Rows.{Stands, PrintsRow, flags_end, RowsMay, rows_draw}
+use Rattle.vt_redraw.proofs.Rows.{Stands, PrintsRow, flags_end, BelowMay, RowsMay, rows_draw}
+use Rattle.vt_redraw.proofs.Forms.{rows_form}
+use Rattle.vt_redraw.proofs.RangeDraws.{Any, any_row}
 use Rattle.vt_redraw.proofs.Cursor.{Puts, cursor_draws}
 use Rattle.vt_redraw.proofs.Local.{rows_local}
 use Rattle.vt_redraw.proofs.Touched.{DrawsIn, in_then, quiet_in, changing_quiet, AllQuiet}
@@ -90,19 +93,47 @@ flags_end_of width (x ∷ y ∷ ys) h =
 
 -- ---- rows, cursor and attributes
 
+-- The positions that a difference may touch: in the fixed form, those near rows that differ and at the end of the row at
+-- which a wrap is made pending.
+abbrev MayTouch : Form → (self prev : Picture) → ℕ → ℕ → Type 0
+MayTouch Fixed self prev = IsLocal self prev
+MayTouch Portable self prev = Any
+
+any_below : (width r : ℕ) (above other : RowValue) (xs ys : List RowValue) → BelowMay Any width r above other xs ys
+any_below width r above other [] ys = tt
+any_below width r above other (x ∷ xs) [] = tt
+any_below width r above other (x ∷ xs) (y ∷ ys) =
+    (λ _. any_row width (r + 1) x y, any_below width (r + 1) x y xs ys)
+
+pub any_rows : (width : ℕ) (xs ys : List RowValue) → RowsMay Any width xs ys
+any_rows width [] ys = tt
+any_rows width (x ∷ xs) [] = tt
+any_rows width (x ∷ xs) (y ∷ ys) = (λ _. any_row width 0 x y, any_below width 0 x y xs ys)
+
+touched_rows : (form : Form) (self prev : Picture) → AllByRecursion (IsRow self.width) self.rows →
+    RowsMay (MayTouch form self prev) self.width self.rows prev.rows
+touched_rows Fixed self prev is = rows_local self prev is
+touched_rows Portable self prev is = any_rows self.width self.rows prev.rows
+
 -- A difference may touch the end of the row at which a pending wrap is made, on a screen of width `w`.
-abbrev PlacesAt : (self prev : Picture) → ℕ → Type 0
-PlacesAt self prev w =
+abbrev PlacesAt : Form → (self prev : Picture) → ℕ → Type 0
+PlacesAt form self prev w =
     self.column ≡ w → (k : ℕ) →
     last_column (row_or w self.rows (placing_row (nearest w self.rows self.row) self.row)).cells ≤ k →
-    k < w → IsLocal self prev (placing_row (nearest w self.rows self.row) self.row) k
+    k < w → MayTouch form self prev (placing_row (nearest w self.rows self.row) self.row) k
 
-placed : (self prev : Picture) → PlacesAt self prev self.width
-placed self prev e k low high = inr (e, (refl, low))
+placed : (form : Form) (self prev : Picture) → PlacesAt form self prev self.width
+placed Fixed self prev e k low high = inr (e, (refl, low))
+placed Portable self prev e k low high = tt
+
+touches_any : (form other : Form) (self prev : Picture) → other ≡ form → other ≡ Portable →
+    (r k : ℕ) → MayTouch form self prev r k
+touches_any Fixed other self prev e p r k = absurd cc
+touches_any Portable other self prev e p r k = tt
 
 pub script_draws : (form : Form) (self : Picture) (base : Canvas) → IsPicture self → IsSteady self →
     IsPicture (picture_of base) → IsPlainPage base.page → SamePictureSize self (picture_of base) →
-    Puts (IsLocal self (picture_of base)) (script_in form self (picture_of base)) base
+    Puts (MayTouch form self (picture_of base)) (script_in form self (picture_of base)) base
     (at_pen base self.rows (pen_of form self))
 unfolding script_in
 script_draws form self base is steady other plain size =
@@ -124,17 +155,18 @@ script_draws form self base is steady other plain size =
     (recursion_from_All (λ row. All (IsSteadyCell self.width) row.cells) self.rows steady) in
     let stand = rows_stand width self.rows self_rows in
     let prints = picture_prints width self.rows other.has_columns self_rows steady_rows in
-    let May = IsLocal self (picture_of base) in
+    let May = MayTouch form self (picture_of base) in
     let local : RowsMay May width self.rows base.page.rows =
     subst (λ (w : ℕ). RowsMay May w self.rows base.page.rows) same
-    (rows_local self (picture_of base) (recursion_from_All (IsRow self.width) self.rows is.rows)) in
+    (touched_rows form self (picture_of base) (recursion_from_All (IsRow self.width) self.rows is.rows)) in
     let rows = rows_draw May base self.rows base.page.rows height pen reads refl (sym tall) stand
     (rows_stand width base.page.rows (recursion_from_All (IsRow width) base.page.rows other.rows)) prints
     (flags_end_of self.width self.rows is.last) start local in
     let w = rows_written pen self.rows base.page.rows in
     let column = is.cursor_column in
     let rule = cursor_draws May base self.rows w.pen self.row self.column height reads refl stand prints is.cursor_row
-    (omega arith) rows.within (subst (PlacesAt self (picture_of base)) same (placed self (picture_of base))) in
+    (omega arith) rows.within (subst (PlacesAt form self (picture_of base)) same (placed form self (picture_of base)))
+    (λ _ p. touches_any form w.pen.form self (picture_of base) (rows_form pen self.rows base.page.rows) p self.row) in
     let goal = at_pen base self.rows (pen_at self.row self.column w.pen.attrs) in
     let moved : DrawsIn May (cursor_written w.pen self.width self.rows self.row self.column)
     (at_pen base self.rows w.pen) (with_saved rule.0 goal) =
@@ -150,12 +182,13 @@ script_draws form self base is steady other plain size =
           (with_saved rule.0 goal) (with_saved rule.0 (at_pen base self.rows (pen_of form self))) moved
           (quiet_in May (attr_ops_in form w.pen.attrs self.attrs) (with_saved rule.0 goal)
           (with_saved rule.0 (at_pen base self.rows (pen_of form self))) (changing_quiet form w.pen.attrs self.attrs)
-          (changing_draws form (with_saved rule.0 base) self.rows (pen_at self.row self.column w.pen.attrs) self.attrs))),
+          (changing_draws form (with_saved rule.0 base) self.rows (pen_at self.row self.column w.pen.attrs)
+          self.attrs))),
     )
 
 -- ---- the difference
 
-hiding_draws : (self : Picture) (any : Canvas) →
+pub hiding_draws : (self : Picture) (any : Canvas) →
     Draws (cursor_visibility_ops self (picture_of any)) any (record any { hidden = self.hidden })
 hiding_draws self any =
     cond_both (same_bool self.hidden any.hidden) [] (Hide self.hidden ∷ [])
@@ -168,13 +201,19 @@ hiding_quiet : (self prev : Picture) → AllQuiet (cursor_visibility_ops self pr
 hiding_quiet self prev =
     cond_both (same_bool self.hidden prev.hidden) [] (Hide self.hidden ∷ []) AllQuiet (λ _. tt) (λ _. (refl, tt))
 
+-- The positions that a difference may touch do not depend on whether the cursor is hidden.
+touch_shown : (form : Form) (self : Picture) (any : Canvas) (P : (ℕ → ℕ → Type 0) → Type 0) →
+    P (MayTouch form self (picture_of (record any { hidden = self.hidden }))) → P (MayTouch form self (picture_of any))
+touch_shown Fixed self any P h = h
+touch_shown Portable self any P h = h
+
 difference_puts : (form : Form) (self prev : Picture) (any : Canvas) → IsPicture self → IsSteady self →
     IsPicture prev → SamePictureSize self prev → IsPlainPage any.page → picture_of any ≡ prev →
-    Puts (IsLocal self prev) (difference_in form self prev) any (with_picture self any)
+    Puts (MayTouch form self prev) (difference_in form self prev) any (with_picture self any)
 unfolding difference_in script_in
 difference_puts form self prev any is steady other size plain e =
     let base = record any { hidden = self.hidden } in
-    let May = IsLocal self (picture_of any) in
+    let May = MayTouch form self (picture_of any) in
     let shows = sym e in
     let was = subst IsPicture shows other in
     let sizes = subst (SamePictureSize self) shows size in
@@ -188,12 +227,14 @@ difference_puts form self prev any is steady other size plain e =
     })
     plain (record { width = sizes.width; height = sizes.height }) in
     let goal = with_saved rest.0 (with_picture self any) in
-    subst (λ (p : Picture). Puts (IsLocal self p) (cursor_visibility_ops self p ++ script_in form self p) any (with_picture self any)) e (
+    subst (λ (p : Picture). Puts (MayTouch form self p) (cursor_visibility_ops self p ++ script_in form self p) any
+    (with_picture self any)) e (
       rest.0,
       in_then May (cursor_visibility_ops self (picture_of any)) (script_in form self (picture_of any)) any base goal
           (quiet_in May (cursor_visibility_ops self (picture_of any)) any base
           (hiding_quiet self (picture_of any)) (hiding_draws self any))
-          rest.1,
+          (touch_shown form self any (λ (T : ℕ → ℕ → Type 0). DrawsIn T (script_in form self (picture_of any)) base
+          goal) rest.1),
     )
 
 -- The operations draw the canvas `goal`, except for the saved state.
@@ -215,14 +256,9 @@ pub difference_draws : (self prev : Picture) (any : Canvas) → IsPicture self �
 difference_draws = difference_draws_in Fixed
 
 -- The difference touches only positions near a differing row, and the end of the row at which a wrap is made pending.
-pub difference_local_in : (form : Form) (self prev : Picture) (any : Canvas) → IsPicture self → IsSteady self →
-    IsPicture prev → SamePictureSize self prev → IsPlainPage any.page → picture_of any ≡ prev →
-    Touches (IsLocal self prev) (difference_in form self prev) any
-difference_local_in form self prev any is steady other size plain e =
-    let puts = difference_puts form self prev any is steady other size plain e in
-    puts.1.touches
-
 pub difference_local : (self prev : Picture) (any : Canvas) → IsPicture self → IsSteady self →
     IsPicture prev → SamePictureSize self prev → IsPlainPage any.page → picture_of any ≡ prev →
     Touches (IsLocal self prev) (difference self prev) any
-difference_local = difference_local_in Fixed
+difference_local self prev any is steady other size plain e =
+    let puts = difference_puts Fixed self prev any is steady other size plain e in
+    puts.1.touches

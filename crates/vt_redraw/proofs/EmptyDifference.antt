@@ -1,6 +1,7 @@
 -- The difference of a picture with itself is empty, and no other difference is.
 use Rattle.std.proofs.Common.{◌≡◌, ℕ, ◌+◌, ◌-◌, ◌&&◌, ◌||◌, Bool, true, false, not, List, []}
 use Rattle.std.proofs.Common.{◌∷◌, length, Option, Some, None, refl, sym, ap, ◌∙◌, arith}
+use Rattle.std.specs.Prelude.{if◌then◌else◌, nat_lt}
 use Rattle.std.proofs.lemmas.Bool.{cond_both}
 use Rattle.std.proofs.lemmas.Bool.Decides.{nat_tests}
 use Rattle.vt_cells.specs.Attrs.{default_attrs}
@@ -10,7 +11,7 @@ use Rattle.vt_cells.proofs.Same.{same_attrs-itself, same_bool-itself}
 use Rattle.vt_rows.specs.Row.{RowValue}
 use Rattle.vt_grid.specs.Canvas.{Canvas, drawn_all}
 use Rattle.vt_grid.specs.Page.{IsPlainPage}
-use Rattle.vt_redraw.specs.Script.{attr_ops_in}
+use Rattle.vt_redraw.specs.Script.{attr_ops_in, move_ops}
 use Rattle.vt_redraw.specs.declared.form.Form.{Form}
 use Rattle.vt_redraw.specs.declared.form.Form.TheVariants.{Fixed}
 use Rattle.vt_redraw.specs.declared.pen.Pen.{Pen}
@@ -18,8 +19,10 @@ use Rattle.vt_redraw.specs.Picture.{Picture, IsPicture, SamePictureSize, picture
 use Rattle.vt_redraw.specs.Steady.{IsSteady}
 use Rattle.vt_redraw.specs.Script.{Linked, no_link, starts_other, row_link, is_at}
 use Rattle.vt_redraw.specs.Redraw.{link_of, rows_below, rows_written, pen_of, cursor_written, script_in, difference, difference_in}
+use Rattle.vt_redraw.specs.Redraw.{nearest, pending_at}
 use Rattle.vt_redraw.proofs.Standing.{row_nothing, starts_none}
 use Rattle.vt_redraw.proofs.Difference.{difference_draws_in}
+use Rattle.vt_redraw.proofs.Writing.{going_nowhere}
 
 -- ---- equal pictures
 
@@ -50,13 +53,23 @@ unfolding rows_written
 rows_nothing pen [] = (refl, refl)
 rows_nothing pen (x ∷ xs) = rw (row_nothing 0 0 pen x) (below_nothing 0 pen x xs)
 
-pub difference_self_in : (form : Form) (picture : Picture) → difference_in form picture picture ≡ []
-unfolding difference_in script_in cursor_written attr_ops_in
-difference_self_in form picture =
+cursor_nothing : (form : Form) (picture : Picture) →
+    cursor_written (pen_of form picture) picture.width picture.rows picture.row picture.column ≡ []
+unfolding cursor_written
+cursor_nothing form picture =
     let pen = pen_of form picture in
-    let n = rows_nothing pen picture.rows in
     let t : is_at pen picture.row picture.column ≡ true = grind (arith, nat_tests) in
-    rw (n.0, n.1, same_bool-itself picture.hidden, t, same_attrs-itself picture.attrs) refl
+    let pending = pending_at (nearest picture.width picture.rows picture.row) pen picture.width picture.rows picture.row in
+    cond_both (nat_lt picture.column picture.width) (move_ops pen picture.row picture.column)
+    (if is_at pen picture.row picture.column then [] else pending) (λ (ops : List Op). ops ≡ [])
+    (λ _. going_nowhere pen picture.row picture.column (ap (λ (b : Bool). b && true) t))
+    (λ _. ap (λ (b : Bool). if b then [] else pending) t)
+
+pub difference_self_in : (form : Form) (picture : Picture) → difference_in form picture picture ≡ []
+unfolding difference_in script_in attr_ops_in
+difference_self_in form picture =
+    let n = rows_nothing (pen_of form picture) picture.rows in
+    rw (n.0, n.1, same_bool-itself picture.hidden, cursor_nothing form picture, same_attrs-itself picture.attrs) refl
 
 pub difference_self : (picture : Picture) → difference picture picture ≡ []
 difference_self = difference_self_in Fixed

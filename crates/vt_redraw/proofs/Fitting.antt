@@ -10,7 +10,7 @@ use Rattle.vt_cells.specs.Cell.{CellValue, blank, glyph, right_half, IsCell, def
 use Rattle.vt_cells.specs.Cell.{attrs_of, text_of, is_right_half, same_cell}
 use Rattle.vt_cells.proofs.Glyphs.{IsGlyphText-space}
 use Rattle.vt_cells.specs.Op.{Op, Hide, MoveTo, MoveRight, NextRow, LineFeed, Backspace, EraseChars, ClearAttrs}
-use Rattle.vt_cells.specs.Op.{SaveCursor, RestoreCursor, ChangeAttrs, Print, FitsAttrs}
+use Rattle.vt_cells.specs.Op.{SaveCursor, RestoreCursor, ChangeAttrs, Print, FitsAttrs, cursor_move_ops}
 use Rattle.vt_rows.specs.Cells.{at, ends_blank}
 use Rattle.vt_rows.specs.Row.{RowValue, IsRow, blank_row}
 use Rattle.vt_grid.specs.Page.{row_or}
@@ -28,8 +28,8 @@ use Rattle.vt_redraw.specs.Script.{Linked, after_last_glyph, first_written, is_a
 use Rattle.vt_redraw.specs.Script.{break_ops, ops_then_link, row_break, row_link, wrapped_after_erasure, wrapped_after_glyph}
 use Rattle.vt_redraw.specs.Redraw.{row_written, link_of, rows_below, rows_written, nearest, over_blank, script_in}
 use Rattle.vt_redraw.specs.Redraw.{under_last, pending_at, cursor_written, pen_of, cursor_visibility_ops, difference_in}
-use Rattle.vt_redraw.specs.Redraw.{difference, blank_like, redraw, pending_alone, cursor_state, redraw_in}
-use Rattle.vt_redraw.specs.Script.{change_ops, erased_count}
+use Rattle.vt_redraw.specs.Redraw.{difference, blank_like, redraw, pending_alone, cursor_state, redraw_in, strays}
+use Rattle.vt_redraw.specs.Script.{change_ops, erased_count, pen_past}
 use Rattle.std.proofs.lemmas.List.{length-replicate}
 use Rattle.vt_redraw.proofs.Forms.{link_form}
 use Rattle.vt_redraw.proofs.Forms.{row_form}
@@ -48,10 +48,11 @@ fits_append (x ∷ xs) ys p q = (p.0, fits_append xs ys p.1 q)
 going_fits : (pen : Pen) (r c : ℕ) → r < 65535 → c < 65535 → AllFit (move_ops pen r c)
 unfolding move_ops
 going_fits pen r c h l =
-    cond_both ((r == pen.row + 1) && (c == 0)) (NextRow ∷ []) _ AllFit (λ _. (tt, tt))
+    cond_both pen.is_shifted (MoveTo r c ∷ []) (cursor_move_ops pen.row pen.col r c) AllFit (λ _. ((h, l), tt))
+    (λ _. cond_both ((r == pen.row + 1) && (c == 0)) (NextRow ∷ []) _ AllFit (λ _. (tt, tt))
     (λ _. cond_both ((r == pen.row) && nat_lt pen.col c)
     (MoveRight (c - pen.col) ∷ []) _ AllFit (λ _. (omega arith, tt))
-    (λ _. cond_both ((r == pen.row) && (c == pen.col)) [] (MoveTo r c ∷ []) AllFit (λ _. tt) (λ _. ((h, l), tt))))
+    (λ _. cond_both ((r == pen.row) && (c == pen.col)) [] (MoveTo r c ∷ []) AllFit (λ _. tt) (λ _. ((h, l), tt)))))
 
 changing_fits : (form : Form) (was new : Attrs) → FitsAttrs was → FitsAttrs new → AllFit (attr_ops_in form was new)
 unfolding attr_ops_in
@@ -166,7 +167,7 @@ cells_fit r c pen flag zero (blank a ∷ xs) (y ∷ ys) h l short was fit =
 cells_fit r c pen flag zero (glyph text wide a ∷ xs) (y ∷ ys) h l short was fit =
     let less = counted_le pen.form (length ys) (suc (length ys)) (omega arith) short in
     let k = glyph_columns wide - 1 in
-    let next = pen_in pen.form r (c + glyph_columns wide) a in
+    let next = pen_past pen.form r (c + glyph_columns wide) a text in
     let now = wrapped_after_glyph flag wide (drop 1 ys) in
     let rest = cells_written r (c + 1) next now k xs ys in
     cond_both (same_cell (glyph text wide a) y) (cells_written r (c + 1) pen flag k xs ys)
@@ -341,12 +342,11 @@ nearest_below width rows (suc n) =
     cond_both (ends_blank (row_or width rows (suc n)).cells) (nearest width rows n) (Some (suc n))
     (Below (suc n)) (λ _. below_more n (nearest width rows n) (nearest_below width rows n)) (λ _. omega arith)
 
-pending_fits : (found : Option ℕ) (pen : Pen) (width : ℕ) (rows : List RowValue) (r : ℕ) →
-    Below r found → r < length rows → length rows < 2 ^ 16 → 0 < width →
+over_fits : (pen : Pen) (width : ℕ) (rows : List RowValue) (r : ℕ) → r < length rows → length rows < 2 ^ 16 → 0 < width →
     width < 2 ^ 16 → FitsAttrs pen.attrs → AllByRecursion (IsFitRow width) rows →
-    AllFit (pending_at found pen width rows r)
-unfolding over_blank under_last
-pending_fits None pen width rows r near lt h some l was fit =
+    AllFit (over_blank pen r width (attrs_of (at (row_or width rows r).cells (width - 1))))
+unfolding over_blank
+over_fits pen width rows r lt h some l was fit =
     let row = row_at_fits width rows r fit lt in
     let last = at_fits (row_or width rows r).cells (width - 1) row.cells in
     let b = attrs_of (at (row_or width rows r).cells (width - 1)) in
@@ -359,25 +359,35 @@ pending_fits None pen width rows r near lt h some l was fit =
           (changing_fits pen.form pen.attrs b was last.1)
           (tt, (back_fits pen.form r (width - 1) (omega arith) (omega arith), (omega arith, (tt, changing_fits pen.form b pen.attrs last.1 was)))),
     )
+
+pending_fits : (found : Option ℕ) (pen : Pen) (width : ℕ) (rows : List RowValue) (r : ℕ) →
+    Below r found → r < length rows → length rows < 2 ^ 16 → 0 < width →
+    width < 2 ^ 16 → FitsAttrs pen.attrs → AllByRecursion (IsFitRow width) rows →
+    AllFit (pending_at found pen width rows r)
+unfolding over_blank under_last
+pending_fits None pen width rows r near lt h some l was fit = over_fits pen width rows r lt h some l was fit
 pending_fits (Some i) pen width rows r near lt h some l was fit =
     let row = row_at_fits width rows i fit (omega arith) in
     let columns = row.columns in
     let cells = (row_or width rows i).cells in
     let w = after_last_glyph i pen cells in
     let one = after_fits i pen cells (omega arith) (omega arith) (omega arith) was row.cells in
-    fits_append w.ops (attr_ops_in pen.form w.pen.attrs pen.attrs ++ replicate (r - i) LineFeed) one.ops
+    cond_both (strays pen.form w.pen.is_shifted && nat_lt i r)
+    (over_blank pen r width (attrs_of (at (row_or width rows r).cells (width - 1)))) (under_last pen i r cells) AllFit
+    (λ _. over_fits pen width rows r lt h some l was fit)
+    (λ _. fits_append w.ops (attr_ops_in pen.form w.pen.attrs pen.attrs ++ replicate (r - i) LineFeed) one.ops
     (fits_append (attr_ops_in pen.form w.pen.attrs pen.attrs) (replicate (r - i) LineFeed)
-    (changing_fits pen.form w.pen.attrs pen.attrs one.attrs was) (feeds_fit (r - i)))
+    (changing_fits pen.form w.pen.attrs pen.attrs one.attrs was) (feeds_fit (r - i))))
 
 cursor_fits : (pen : Pen) (width : ℕ) (rows : List RowValue) (r c : ℕ) → r < length rows →
     length rows < 2 ^ 16 → 0 < width → width < 2 ^ 16 → FitsAttrs pen.attrs →
     AllByRecursion (IsFitRow width) rows → AllFit (cursor_written pen width rows r c)
 unfolding cursor_written
 cursor_fits pen width rows r c lt h some l was fit =
-    cond_both (is_at pen r c) []
-    (if nat_lt c width then move_ops pen r c else pending_at (nearest width rows r) pen width rows r) AllFit (λ _. tt)
-    (λ _. cond_both (nat_lt c width) (move_ops pen r c) (pending_at (nearest width rows r) pen width rows r) AllFit
+    cond_both (nat_lt c width) (move_ops pen r c)
+    (if is_at pen r c then [] else pending_at (nearest width rows r) pen width rows r) AllFit
     (λ (t : nat_lt c width ≡ true). let low = ltb-true c width t in going_fits pen r c (omega arith) (omega arith))
+    (λ _. cond_both (is_at pen r c) [] (pending_at (nearest width rows r) pen width rows r) AllFit (λ _. tt)
     (λ _. pending_fits (nearest width rows r) pen width rows r (nearest_below width rows r) lt h some l was fit))
 
 -- ---- whole pictures

@@ -6,11 +6,11 @@ use Rattle.vt_cells.specs.Cell.{CellValue, blank, glyph, right_half, same_cell, 
 use Rattle.vt_cells.specs.Glyph.{glyph_columns}
 use Rattle.vt_cells.specs.Op.{Print}
 use Rattle.vt_rows.specs.Row.{RowValue}
-use Rattle.vt_redraw.specs.Script.{Linked, Scripted, blank_run, cells_written, erase_run, ops_then, pen_in, placed_op}
+use Rattle.vt_redraw.specs.Script.{Linked, Scripted, blank_run, cells_written, erase_run, ops_then, pen_in, pen_past, placed_op}
 use Rattle.vt_redraw.specs.Script.{after_last_glyph, break_ops, first_written, is_at, last_column, last_glyph, no_link}
 use Rattle.vt_redraw.specs.Script.{no_ops, ops_then_link, pen_after, row_break, row_link, starts_other}
 use Rattle.vt_redraw.specs.Script.{wrapped_after_erasure, wrapped_after_glyph}
-use Rattle.vt_redraw.specs.Redraw.{link_of, row_written}
+use Rattle.vt_redraw.specs.Redraw.{link_of, row_written, rows_below, rows_written}
 use Rattle.vt_redraw.specs.declared.pen.Pen.{Pen}
 
 pub cells_form : (r c : ℕ) (pen : Pen) (flag : Bool) (k : ℕ) (xs ys : List CellValue) →
@@ -30,7 +30,7 @@ cells_form r c pen flag zero (blank a ∷ xs) (y ∷ ys) =
     (λ _. cells_form r (c + 1) pen flag zero xs ys) (λ _. cells_form r (c + 1) next now n xs ys)
 cells_form r c pen flag zero (glyph text wide a ∷ xs) (y ∷ ys) =
     let k = glyph_columns wide - 1 in
-    let next = pen_in pen.form r (c + glyph_columns wide) a in
+    let next = pen_past pen.form r (c + glyph_columns wide) a text in
     let now = wrapped_after_glyph flag wide (drop 1 ys) in
     cond_both (same_cell (glyph text wide a) y) (cells_written r (c + 1) pen flag k xs ys)
     (ops_then (placed_op pen r c a (Print text)) (cells_written r (c + 1) next now k xs ys))
@@ -79,3 +79,22 @@ link_form r pen above on x y =
     (ops_then_link w.ops (first_written (r + 1) w.pen y.wrapped x.cells y.cells)) (no_link pen y.wrapped) P
     (λ _. first_form (r + 1) w.pen y.wrapped x.cells y.cells ∙ after_form r pen above.cells) (λ _. refl))
     (λ _. refl)
+
+below_form : (r : ℕ) (pen : Pen) (above : RowValue) (on : Bool) (xs ys : List RowValue) →
+    (rows_below r pen above on xs ys).pen.form ≡ pen.form
+unfolding rows_below
+below_form r pen above on [] ys = refl
+below_form r pen above on (x ∷ xs) [] = refl
+below_form r pen above on (x ∷ xs) (y ∷ ys) =
+    let link = link_of r pen above on x y in
+    let row = row_written (r + 1) link.settled link.pen link.flag x y.cells in
+    below_form (r + 1) row.pen x row.flag xs ys
+    ∙ (row_form (r + 1) link.settled link.pen link.flag x y.cells ∙ link_form r pen above on x y)
+
+pub rows_form : (pen : Pen) (xs ys : List RowValue) → (rows_written pen xs ys).pen.form ≡ pen.form
+unfolding rows_written
+rows_form pen [] ys = refl
+rows_form pen (x ∷ xs) [] = refl
+rows_form pen (x ∷ xs) (y ∷ ys) =
+    let row = row_written 0 0 pen y.wrapped x y.cells in
+    below_form 0 row.pen x row.flag xs ys ∙ row_form 0 0 pen y.wrapped x y.cells

@@ -17,7 +17,7 @@ use Rattle.vt_redraw.specs.Items.{in_range, with_whole_start, with_whole_start_o
 use Rattle.vt_redraw.specs.Picture.{Picture, IsPicture, SamePictureSize}
 use Rattle.vt_redraw.specs.Script.{Scripted, no_ops, ops_then, pen_at, move_ops, placed_op, blank_run, pen_in}
 use Rattle.vt_redraw.specs.Script.{cells_written, erase_run, last_column, wrapped_after_erasure, wrapped_after_glyph}
-use Rattle.vt_redraw.specs.Script.{after_last_glyph, is_at, last_glyph, pen_after, row_break, attr_ops_in}
+use Rattle.vt_redraw.specs.Script.{after_last_glyph, is_at, last_glyph, pen_after, row_break, attr_ops_in, pen_past}
 use Rattle.vt_redraw.specs.declared.pen.Pen.{Pen}
 use Rattle.vt_redraw.proofs.Edits.{glyph_cells}
 use Rattle.vt_redraw.proofs.Flags.{ends, ends_is}
@@ -102,7 +102,7 @@ cells_none r c pen flag (glyph text false a ∷ xs) (y ∷ ys) e h k is none =
         same_cell (glyph text false a) y ≡ t →
         bytes_of_all (if t then cells_written r (c + 1) pen flag 0 xs ys
         else ops_then (placed_op pen r c a (Print text))
-        (cells_written r (c + 1) (pen_in pen.form r (c + 1) a) (wrapped_after_glyph flag false (drop 1 ys)) 0 xs ys)).ops
+        (cells_written r (c + 1) (pen_past pen.form r (c + 1) a text) (wrapped_after_glyph flag false (drop 1 ys)) 0 xs ys)).ops
         ≡ [] →
         glyph text false a ∷ xs ≡ y ∷ ys
     by_test more true t none =
@@ -137,7 +137,7 @@ cells_none r c pen flag (glyph text true a ∷ right_half ∷ xs) (y ∷ z ∷ y
         same_cell (glyph text true a) y ≡ t →
         bytes_of_all (if t then cells_written r (c + 1) pen flag 1 (right_half ∷ xs) (z ∷ ys)
         else ops_then (placed_op pen r c a (Print text))
-        (cells_written r (c + 1) (pen_in pen.form r (c + 2) a)
+        (cells_written r (c + 1) (pen_past pen.form r (c + 2) a text)
         (wrapped_after_glyph flag true (drop 1 (z ∷ ys))) 1 (right_half ∷ xs) (z ∷ ys))).ops
         ≡ [] →
         glyph text true a ∷ right_half ∷ xs ≡ y ∷ z ∷ ys

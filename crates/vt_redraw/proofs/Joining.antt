@@ -4,7 +4,7 @@ use Rattle.std.proofs.Common.{◌++◌, length, drop, Some, inl, inr, refl, sym,
 use Rattle.std.proofs.lemmas.Bool.{cond_both}
 use Rattle.std.proofs.lemmas.List.{length-append}
 use Rattle.vt_cells.specs.Cell.{CellValue, blank, glyph, right_half, default_blank, is_wide, is_right_half}
-use Rattle.vt_cells.specs.Op.{Op, Print, EraseChars}
+use Rattle.vt_cells.specs.Op.{Op, Print, EraseChars, MoveTo}
 use Rattle.vt_cells.specs.Attrs.{Attrs}
 use Rattle.vt_rows.specs.Cells.{at, cells_after_cut}
 use Rattle.vt_rows.specs.Row.{RowValue}
@@ -29,20 +29,33 @@ use Rattle.vt_redraw.proofs.Standing.{starts_none}
 use Rattle.vt_redraw.proofs.Spaces.{space_prints}
 use Rattle.vt_redraw.proofs.Places.{PrintsCells, shown, Ready}
 use Rattle.vt_redraw.proofs.Link.{erase_touches, going_after_draws, no_tail}
+use Rattle.vt_redraw.proofs.Forms.{after_form}
+use Rattle.vt_redraw.proofs.PortableLinks.{after_portably, first_glyph_portably, unspaced_portably}
+use Rattle.vt_redraw.proofs.PortableParts.{Portably, nothing_portably, portably_both}
+use Rattle.vt_redraw.proofs.RangeDraws.{Any}
+use Rattle.vt_redraw.specs.Script.{shifts}
+use Rattle.vt_redraw.specs.declared.form.Form.TheVariants.{Fixed, Portable}
 
 -- ---- the first cell, at a pending wrap
 
 -- The canvas after a link: whether the upper row is wrapped, and how many cells at the beginning of the lower row are
--- drawn.
-pub record Joins (May : ℕ → ℕ → Type 0) (j : Linked) (base : Canvas) (done below : List RowValue)
+-- drawn. In the portable form, the link is portable; `was` tells whether terminals may differ in the cursor's position
+-- before it.
+pub record Joins (May : ℕ → ℕ → Type 0) (form : Form) (was : Bool) (j : Linked) (base : Canvas) (done below : List
+    RowValue)
     (start : Canvas) (above : List CellValue) (to : Bool) (xs ys : List CellValue) (height : ℕ) : Type 0 where
   pub torn : CellValue
+  pub whole : is_right_half torn ≡ false
+  pub portable : form ≡ Portable →
+      Portably j.ops was start j.pen.is_shifted (two base done below above to (shown [] torn j.settled xs ys) j.flag
+      j.pen)
   pub draws : DrawsIn May j.ops start (two base done below above to (shown [] torn j.settled xs ys) j.flag j.pen)
   pub ready : Ready xs ys [] torn j.settled j.flag
   pub within : Within j.pen height base.page.width
 
 -- With a wrap pending, a glyph is printed at the beginning of the next row.
-first_glyph : (May : ℕ → ℕ → Type 0) (form : Form) (base : Canvas) (done below : List RowValue) (above : List CellValue) (on : Bool)
+first_glyph : (May : ℕ → ℕ → Type 0) (form : Form) (base : Canvas) (done below : List RowValue) (above : List
+    CellValue) (on : Bool)
     (y : CellValue) (ys : List CellValue) (flag : Bool) (r : ℕ) (b : Attrs) (text : List ℕ) (wide : Bool) (a : Attrs) →
     length done ≡ r →
     base.page.bottom + 1 ≡ length done + suc (suc (length below)) → ends above ≡ false →
@@ -82,7 +95,8 @@ pub first_blank : (May : ℕ → ℕ → Type 0) (form : Form) (base : Canvas) (
     (y : CellValue) (ys : List CellValue) (flag : Bool) (r : ℕ) (a : Attrs) →
     base.page.origin ≡ false → length done ≡ r → 0 < base.page.width → Paired (y ∷ ys) → Sound flag (y ∷ ys) → May r 0 →
     DrawsIn May (back_op form r 0 ∷ EraseChars 1 ∷ [])
-    (mid base done below (with_glyph [] (0x20 ∷ []) false a ys) (wrapped_after_glyph flag false (drop 1 ys)) (pen_at r 1 a))
+    (mid base done below (with_glyph [] (0x20 ∷ []) false a ys) (wrapped_after_glyph flag false (drop 1 ys)) (pen_at r
+    1 a))
     (mid base done below (blank a ∷ cells_after_cut (orphan false a) ys) (flag && not (is_nil ys)) (pen_at r 0 a))
 first_blank May form base done below y ys flag r a o e pos paired sound may =
     let row = λ (z : List CellValue). blank a ∷ z in
@@ -136,32 +150,78 @@ first_sound y ys flag a paired sound =
     ∙ first_flag flag (is_nil ys) (is_torn ys))
 
 pub glyph_sound : (y : CellValue) (ys : List CellValue) (flag : Bool) (text : List ℕ) (wide : Bool) (a : Attrs) →
-    Paired (y ∷ ys) → Sound flag (y ∷ ys) → Sound (wrapped_after_glyph flag wide (drop 1 ys)) (with_glyph [] text wide a ys)
+    Paired (y ∷ ys) → Sound flag (y ∷ ys) → Sound (wrapped_after_glyph flag wide (drop 1 ys)) (with_glyph [] text wide
+    a ys)
 glyph_sound y ys flag text wide a paired sound =
     sound_kept flag (with_glyph [] text wide a ys) (wrapped_after_glyph flag wide (drop 1 ys))
     (glyph_flag [] default_blank y ys flag text wide a
     (subst (Sound flag) (sym (opened_paired default_blank (y ∷ ys) paired)) sound))
 
+-- In the portable form, the operations that draw a blank at the beginning of a row are portable.
+blank_portably : (form : Form) → form ≡ Portable → (base : Canvas) (done below : List RowValue) (above : List CellValue)
+    (on : Bool) (y : CellValue) (ys : List CellValue) (flag : Bool) (r : ℕ) (b a : Attrs) (was : Bool) →
+    base.page.origin ≡ false → length done ≡ r → base.page.bottom + 1 ≡ length done + suc (suc (length below)) →
+    0 < base.page.width → ends above ≡ false → Paired (y ∷ ys) → Sound flag (y ∷ ys) →
+    Portably (attr_ops_in form b a ++ Print (0x20 ∷ []) ∷ back_op form (r + 1) 0 ∷ EraseChars 1 ∷ []) was
+    (two base done below above on (y ∷ ys) flag (pen_at r base.page.width b)) false
+    (two base done below above true (blank a ∷ cells_after_cut (orphan false a) ys) (flag && not (is_nil ys)) (pen_at
+    (r + 1) 0 a))
+blank_portably Fixed is base done below above on y ys flag r b a was origin e bottom pos full k sound = absurd cc
+blank_portably Portable is base done below above on y ys flag r b a was origin e bottom pos full k sound =
+    let top = done ++ row_of above true ∷ [] in
+    let n : length top ≡ r + 1 = let l = length-append done (row_of above true ∷ []) in omega (arith, l, e) in
+    let space : List ℕ = 0x20 ∷ [] in
+    let attrs = attr_ops_in Portable b a in
+    let start = two base done below above on (y ∷ ys) flag (pen_at r base.page.width b) in
+    let now = wrapped_after_glyph flag false (drop 1 ys) in
+    let spaced = mid base top below (with_glyph [] space false a ys) now (pen_at (r + 1) 1 a) in
+    let goal = two base done below above true (blank a ∷ cells_after_cut (orphan false a) ys) (flag && not (is_nil ys))
+    (pen_at (r + 1) 0 a) in
+    let prints = space_prints base.page.width pos in
+    subst (λ (ops : List Op). Portably ops was start false goal)
+    (append_assoc attrs (Print space ∷ []) (MoveTo (r + 1) 0 ∷ EraseChars 1 ∷ []))
+    (portably_both (attrs ++ Print space ∷ []) (MoveTo (r + 1) 0 ∷ EraseChars 1 ∷ []) was (was || shifts Portable
+    space) false
+    start spaced goal
+    (first_glyph Any Portable base done below above on y ys flag r b space false a e bottom full k sound (omega (
+      arith,
+      pos,
+    ))
+    prints (record { first = tt; second = λ _. tt; torn = λ _. tt })).draws
+    (first_glyph_portably Portable refl base done below above on y ys flag r b space false a was e bottom full k sound
+    (omega (arith, pos)) prints)
+    (unspaced_portably base top below ys now (r + 1) a (was || shifts Portable space) goal n origin
+    (omega (arith, n)) pos refl refl))
+
 -- With a wrap pending and the current attributes `b`, the first cell of a row is drawn.
-pub first_draws : (May : ℕ → ℕ → Type 0) (form : Form) (base : Canvas) (done below : List RowValue)
+pub first_draws : (May : ℕ → ℕ → Type 0) (form : Form) (shifted : Bool) (base : Canvas) (done below : List RowValue)
     (above xs ys : List CellValue) (on flag : Bool) (r height : ℕ) (b : Attrs) →
     base.page.origin ≡ false → length done ≡ r → base.page.bottom + 1 ≡ height → r + suc (suc (length below)) ≡ height →
     length xs ≡ base.page.width → length ys ≡ base.page.width → 0 < base.page.width →
     ends above ≡ false → Paired xs → Paired ys → Sound flag ys → PrintsCells base.page.width xs →
     Lets May (r + 1) 0 xs ys → May (r + 1) 0 → (is_wide (at xs 0) ≡ true → May (r + 1) 1) →
-    Joins May (first_written (r + 1) (pen_in form r base.page.width b) flag xs ys) base done below
+    Joins May form shifted (first_written (r + 1) (record (pen_in form r base.page.width b) { is_shifted = shifted })
+    flag xs ys) base done
+    below
     (two base done below above on ys flag (pen_at r base.page.width b)) above true xs ys height
-first_draws May form base done below above [] ys on flag r height b origin e
+first_draws May form shifted base done below above [] ys on flag r height b origin e
     bottom rows hx hy pos full h k sound prints lets begin second = absurd (omega arith)
-first_draws May form base done below above (x ∷ xs) [] on flag r height b
+first_draws May form shifted base done below above (x ∷ xs) [] on flag r height b
     origin e bottom rows hx hy pos full h k sound prints lets begin second = absurd (omega arith)
-first_draws May form base done below above (right_half ∷ xs) (y ∷ ys) on flag r
+first_draws May form shifted base done below above (right_half ∷ xs) (y ∷ ys) on flag r
     height b origin e bottom rows hx hy pos full h k sound prints lets begin second = absurd h
-first_draws May form base done below above (glyph text false a ∷ xs) (y ∷ ys) on flag
+first_draws May form shifted base done below above (glyph text false a ∷ xs) (y ∷ ys) on flag
     r height b origin e bottom rows hx hy pos full h k sound prints lets begin second =
     let now = wrapped_after_glyph flag false (drop 1 ys) in
     record {
       torn = orphan false a;
+      whole = refl;
+      portable = λ is. subst (λ (k : Canvas). Portably (attr_ops_in form b a ++ Print text ∷ []) shifted
+          (two base done below above on (y ∷ ys) flag (pen_at r base.page.width b)) (shifted || shifts form text) k)
+          (sym (two_mid base done below above true (with_glyph [] text false a ys) now (pen_at (r + 1) 1 a)))
+          (first_glyph_portably form is base done below above on y ys flag r b text false a shifted e (omega arith)
+          full k sound
+          (omega arith) prints.0);
       draws = in_to May (attr_ops_in form b a ++ Print text ∷ []) _ _ _
           (first_glyph May form base done below above on y ys flag r b text
           false a e (omega arith) full k sound (omega arith) prints.0
@@ -182,7 +242,7 @@ first_draws May form base done below above (glyph text false a ∷ xs) (y ∷ ys
       };
       within = record { row = omega arith; col = omega arith };
     }
-first_draws May form base done below above (blank a ∷ xs) (y ∷ ys) on flag r
+first_draws May form shifted base done below above (blank a ∷ xs) (y ∷ ys) on flag r
     height b origin e bottom rows hx hy pos full h k sound prints lets begin second =
     let top = done ++ row_of above true ∷ [] in
     let n : length top ≡ r + 1 = let l = length-append done (row_of above true ∷ []) in omega arith in
@@ -193,6 +253,10 @@ first_draws May form base done below above (blank a ∷ xs) (y ∷ ys) on flag r
     (wrapped_after_glyph flag false (drop 1 ys)) (pen_at (r + 1) 1 a) in
     record {
       torn = orphan false a;
+      whole = refl;
+      portable = λ is. blank_portably form is base done below above on y ys flag r b a shifted origin e (omega arith)
+          pos full k
+          sound;
       draws =
           regrouped (attr_ops_in form b a) (Print (0x20 ∷ [])) (back_op form (r + 1) 0 ∷ EraseChars 1 ∷ [])
           start spaced (two base done below above true goal now (pen_at (r + 1) 0 a))
@@ -203,7 +267,8 @@ first_draws May form base done below above (blank a ∷ xs) (y ∷ ys) on flag r
             second = λ t. absurd (cc);
             torn = λ t. torn_may May (r + 1) 1 xs ys h lets.1 (omega arith) (no_tail xs ys (omega arith)) t;
           }))
-          (in_to May (back_op form (r + 1) 0 ∷ EraseChars 1 ∷ []) spaced (mid base top below goal now (pen_at (r + 1) 0 a))
+          (in_to May (back_op form (r + 1) 0 ∷ EraseChars 1 ∷ []) spaced (mid base top below goal now (pen_at (r + 1) 0
+          a))
           (two base done below above true goal now (pen_at (r + 1) 0 a))
           (first_blank May form base top below y ys flag (r + 1) a origin n pos k sound begin)
           (sym (two_mid base done below above true goal now (pen_at (r + 1) 0 a))));
@@ -224,19 +289,27 @@ first_draws May form base done below above (blank a ∷ xs) (y ∷ ys) on flag r
     regrouped ops op more a b c h k =
         subst (λ (z : List Op). DrawsIn May z a c) (append_assoc ops (op ∷ []) more)
         (in_then May (ops ++ op ∷ []) more a b c h k)
-first_draws May form base done below above (glyph text true a ∷ []) (y ∷ ys) on flag
+first_draws May form shifted base done below above (glyph text true a ∷ []) (y ∷ ys) on flag
     r height b origin e bottom rows hx hy pos full h k sound prints lets begin second = absurd h
-first_draws May form base done below above (glyph text true a ∷ blank c ∷ xs) (y ∷ ys) on
+first_draws May form shifted base done below above (glyph text true a ∷ blank c ∷ xs) (y ∷ ys) on
     flag r height b origin e bottom rows hx hy pos full h k sound prints lets begin second = absurd h
-first_draws May form base done below above (glyph text true a ∷ glyph other wide c ∷ xs) (y ∷ ys)
+first_draws May form shifted base done below above (glyph text true a ∷ glyph other wide c ∷ xs) (y ∷ ys)
     on flag r height b origin e bottom rows hx hy pos full h k sound prints lets begin second = absurd h
-first_draws May form base done below above (glyph text true a ∷ right_half ∷ xs) (y ∷ []) on
+first_draws May form shifted base done below above (glyph text true a ∷ right_half ∷ xs) (y ∷ []) on
     flag r height b origin e bottom rows hx hy pos full h k sound prints lets begin second = absurd (omega arith)
-first_draws May form base done below above (glyph text true a ∷ right_half ∷ xs) (y ∷ y2 ∷ ys)
+first_draws May form shifted base done below above (glyph text true a ∷ right_half ∷ xs) (y ∷ y2 ∷ ys)
     on flag r height b origin e bottom rows hx hy pos full h k sound prints lets begin second =
     let now = wrapped_after_glyph flag true ys in
     record {
       torn = orphan true a;
+      whole = refl;
+      portable = λ is. subst (λ (k : Canvas). Portably (attr_ops_in form b a ++ Print text ∷ []) shifted
+          (two base done below above on (y ∷ y2 ∷ ys) flag (pen_at r base.page.width b)) (shifted || shifts form text)
+          k)
+          (sym (two_mid base done below above true (with_glyph [] text true a (y2 ∷ ys)) now (pen_at (r + 1) 2 a)))
+          (first_glyph_portably form is base done below above on y (y2 ∷ ys) flag r b text true a shifted e (omega
+          arith) full k
+          sound (omega arith) prints.0);
       draws = in_to May (attr_ops_in form b a ++ Print text ∷ []) _ _ _
           (first_glyph May form base done below above on y (y2 ∷ ys) flag r b
           text true a e (omega arith) full k sound (omega arith) prints.0
@@ -276,9 +349,16 @@ ready_start xs ys flag same h k sound = record {
 pub no_join : (May : ℕ → ℕ → Type 0) (base : Canvas) (done below : List RowValue)
     (above xs ys : List CellValue) (on to flag : Bool) (pen : Pen) (height : ℕ) →
     on ≡ to → length xs ≡ length ys → Paired xs → Paired ys → Sound flag ys → Within pen height base.page.width →
-    Joins May (no_link pen flag) base done below (two base done below above on ys flag pen) above to xs ys height
+    Joins May pen.form pen.is_shifted (no_link pen flag) base done below (two base done below above on ys flag pen)
+    above to xs ys height
 no_join May base done below above xs ys on to flag pen height t same h k sound within = record {
   torn = default_blank;
+  whole = refl;
+  portable = λ _. subst (λ (c : Canvas). Portably [] pen.is_shifted (two base done below above on ys flag pen)
+      pen.is_shifted c)
+      (ap (λ (z : Bool). two base done below above z ys flag pen) t
+      ∙ ap (λ (z : List CellValue). two base done below above to z flag pen) (sym (opened_paired default_blank ys k)))
+      (nothing_portably pen.is_shifted (two base done below above on ys flag pen));
   draws = record {
     draws =
         ap (λ (z : Bool). Some (two base done below above z ys flag pen)) t
@@ -290,12 +370,17 @@ no_join May base done below above xs ys on to flag pen height t same h k sound w
   within = within;
 }
 
-joins_after : (May : ℕ → ℕ → Type 0) (ops : List Op) (j : Linked) (base : Canvas) (done below : List RowValue)
-    (a b : Canvas) (above : List CellValue) (to : Bool) (xs ys : List CellValue) (height : ℕ) →
-    DrawsIn May ops a b → Joins May j base done below b above to xs ys height →
-    Joins May (ops_then_link ops j) base done below a above to xs ys height
-joins_after May ops j base done below a b above to xs ys height h k = record {
+joins_after : (May : ℕ → ℕ → Type 0) (form : Form) (was middle : Bool) (ops : List Op) (j : Linked) (base : Canvas)
+    (done below : List RowValue) (a b : Canvas) (above : List CellValue) (to : Bool) (xs ys : List CellValue) (height :
+    ℕ) →
+    DrawsIn May ops a b → (form ≡ Portable → Portably ops was a middle b) →
+    Joins May form middle j base done below b above to xs ys height →
+    Joins May form was (ops_then_link ops j) base done below a above to xs ys height
+joins_after May form was middle ops j base done below a b above to xs ys height h go k = record {
   torn = k.torn;
+  whole = k.whole;
+  portable = λ is. portably_both ops j.ops was middle j.pen.is_shifted a b
+      (two base done below above to (shown [] k.torn j.settled xs ys) j.flag j.pen) h.draws (go is) (k.portable is);
   draws =
       in_then May ops j.ops a b (two base done below above to (shown [] k.torn j.settled xs ys) j.flag j.pen) h k.draws;
   ready = k.ready;
@@ -328,7 +413,7 @@ pub link_draws : (May : ℕ → ℕ → Type 0) (base : Canvas) (done below : Li
     Paired xs → Paired ys → Sound flag ys → PrintsCells base.page.width xs →
     Within pen height base.page.width → (on ≡ false → (k : ℕ) → last_column above ≤ k → k < base.page.width → May r k) →
     ((on ≡ false) ⊎ (xs ≢ ys) → Lets May (r + 1) 0 xs ys × May (r + 1) 0 × (is_wide (at xs 0) ≡ true → May (r + 1) 1)) →
-    Joins May (row_link r pen above on flag xs ys) base done below
+    Joins May pen.form pen.is_shifted (row_link r pen above on flag xs ys) base done below
     (two base done below above on ys flag pen) above true xs ys height
 unfolding row_link
 link_draws May base done below above xs ys on flag r height pen reads e
@@ -337,18 +422,28 @@ link_draws May base done below above xs ys on flag r height pen reads e
     let start = two base done below above on ys flag pen in
     let test = not on || (is_at pen r (length above) && starts_other xs ys) in
     cond_both test (ops_then_link behind.ops (first_written (r + 1) behind.pen flag xs ys))
-    (no_link pen flag) (λ (j : Linked). Joins May j base done below start above true xs ys height)
+    (no_link pen flag) (λ (j : Linked). Joins May pen.form pen.is_shifted j base done below start above true xs ys
+    height)
     (λ (t : test ≡ true).
     let goes = going_after_draws May base done (row_of ys flag ∷ below) above on r height pen reads e rows ha pa
     full above_prints within (λ f. last (at_other on (is_at pen r (length above)) (starts_other xs ys) t f)) in
     let may = near (by_cases (link_cases on (is_at pen r (length above)) (starts_other xs ys) t)) in
-    joins_after May behind.ops (first_written (r + 1) behind.pen flag xs ys) base done below
-    start (two base done below above on ys flag behind.pen) above true xs ys height goes.draws
-    (subst (λ (q : Pen). Joins May (first_written (r + 1) q flag xs ys) base
+    joins_after May pen.form pen.is_shifted behind.pen.is_shifted behind.ops (first_written (r + 1) behind.pen flag xs
+    ys) base
+    done below start (two base done below above on ys flag behind.pen) above true xs ys height goes.draws
+    (λ is. after_portably base done (row_of ys flag ∷ below) above on r height pen is reads e rows ha pa full
+    above_prints within)
+    (subst (λ (q : Pen). Joins May pen.form q.is_shifted (first_written (r + 1) q flag xs ys) base
     done below (two base done below above on ys flag q) above true xs ys height)
     (sym goes.there)
-    (first_draws May behind.pen.form base done below above xs ys on flag r height behind.pen.attrs reads.origin e
-    reads.bottom rows hx hy reads.has_columns full h k sound prints may.0 may.1 may.2)))
+    (subst (λ (f : Form). Joins May f behind.pen.is_shifted
+    (first_written (r + 1) (record behind.pen { row = r; col = base.page.width }) flag xs ys) base done below
+    (two base done below above on ys flag (record behind.pen { row = r; col = base.page.width })) above true xs ys
+    height)
+    (after_form r pen above)
+    (first_draws May behind.pen.form behind.pen.is_shifted base done below above xs ys on flag r height
+    behind.pen.attrs reads.origin e
+    reads.bottom rows hx hy reads.has_columns full h k sound prints may.0 may.1 may.2))))
     (λ (t : test ≡ false). no_join May base done below above xs ys on true flag pen height
     (stays_on on (is_at pen r (length above) && starts_other xs ys) t) (hx ∙ sym hy) h k sound within)
   where

@@ -31,7 +31,7 @@ use Rattle.vt_redraw.specs.Script.{first_written, is_at, is_blank_of, move_ops, 
 use Rattle.vt_redraw.specs.Script.{placed_op, row_break, row_link, starts_other, wrapped_after_erasure, wrapped_after_glyph}
 use Rattle.vt_redraw.proofs.Halves.{Loose, Paired, loose_step, paired_loose, paired_of}
 use Rattle.vt_redraw.proofs.Runs.{blank_of_is}
-use Rattle.vt_redraw.specs.Script.{pen_in, change_ops, resets}
+use Rattle.vt_redraw.specs.Script.{pen_in, change_ops, resets, pen_past}
 use Rattle.vt_redraw.specs.Script.{attr_ops_in}
 
 -- The number of bytes of the output of some operations.
@@ -172,7 +172,7 @@ cells_least r c pen flag zero (blank a ∷ xs) (suc n) h le =
     omega (arith, least, run, placed, both, some))
 cells_least r c pen flag zero (glyph text wide a ∷ xs) (suc n) h le =
     let k = glyph_columns wide - 1 in
-    let next = pen_in pen.form r (c + glyph_columns wide) a in
+    let next = pen_past pen.form r (c + glyph_columns wide) a text in
     let on = wrapped_after_glyph flag wide (drop 1 (blanks default_attrs n)) in
     let rest = cells_written r (c + 1) next on k xs (blanks default_attrs n) in
     let least = cells_least r (c + 1) next on k xs n (loose_step (glyph text wide a) xs h) (omega (arith, le)) in

@@ -54,3 +54,9 @@ pub mod RowSteps
 pub mod ItemSteps
 pub mod PortableSteps
 pub mod PortableGlyphs
+pub mod PortableParts
+pub mod PortableCells
+pub mod PortableLinks
+pub mod PortableRows
+pub mod PortableCursor
+pub mod PortableScript

@@ -10,7 +10,7 @@ use Rattle.vt_cells.specs.Attrs.{Attrs, default_attrs}
 use Rattle.vt_rows.specs.Row.{RowValue}
 use Rattle.vt_grid.specs.Canvas.{Canvas}
 use Rattle.vt_cells.specs.Glyph.{glyph_columns}
-use Rattle.vt_redraw.specs.Script.{pen_at, move_ops, pen_in, attr_ops_in, erased_count}
+use Rattle.vt_redraw.specs.Script.{pen_at, move_ops, attr_ops_in, erased_count}
 use Rattle.vt_redraw.specs.declared.pen.Pen.{Pen}
 use Rattle.vt_redraw.proofs.Steps.{Reads, Within, changing_draws}
 use Rattle.vt_redraw.specs.Script.{Scripted, no_ops, placed_op, cells_written, last_column}
@@ -160,14 +160,14 @@ print_again May base done below pre text true a flag r prints e w h sound may =
 pub record GoesAfter (May : ℕ → ℕ → Type 0) (w : Scripted) (base : Canvas) (done below : List RowValue)
     (cells : List CellValue) (flag : Bool) (r : ℕ) (pen : Pen) : Type 0 where
   pub draws : DrawsIn May w.ops (mid base done below cells flag pen) (mid base done below cells flag w.pen)
-  pub there : w.pen ≡ pen_in w.pen.form r base.page.width w.pen.attrs
+  pub there : w.pen ≡ record w.pen { row = r; col = base.page.width }
 
-pub same_pen : (pen : Pen) (r c : ℕ) → is_at pen r c ≡ true → pen ≡ pen_in pen.form r c pen.attrs
+pub same_pen : (pen : Pen) (r c : ℕ) → is_at pen r c ≡ true → pen ≡ record pen { row = r; col = c }
 same_pen pen r c t =
     let both = and_parts (pen.row == r) (pen.col == c) t in
     let e = eqb-true pen.row r both.0 in
     let f = eqb-true pen.col c both.1 in
-    ap (λ (z : ℕ). pen_in pen.form z pen.col pen.attrs) e ∙ ap (λ (z : ℕ). pen_in pen.form r z pen.attrs) f
+    ap (λ (z : ℕ). record pen { row = z }) e ∙ ap (λ (z : ℕ). record pen { row = r; col = z }) f
 
 pub going_after_draws : (May : ℕ → ℕ → Type 0) (base : Canvas) (done below : List RowValue)
     (xs : List CellValue) (flag : Bool) (r height : ℕ) (pen : Pen) →
@@ -187,7 +187,7 @@ going_after_draws May base done below xs flag r height pen reads e rows w h full
     (λ (t : is_at pen r (length xs) ≡ true).
     record {
       draws = record { draws = refl; touches = tt };
-      there = same_pen pen r (length xs) t ∙ ap (λ (c : ℕ). pen_in pen.form r c pen.attrs) w;
+      there = same_pen pen r (length xs) t ∙ ap (λ (c : ℕ). record pen { row = r; col = c }) w;
     })
     (λ (t : is_at pen r (length xs) ≡ false). record {
       draws = last_cases
@@ -211,7 +211,7 @@ going_after_draws May base done below xs flag r height pen reads e rows w h full
           (prints_last base.page.width pre text wide a p) e (sym n ∙ size) front sound mays)
           (ap (λ (c : ℕ). mid base done below (pre ++ glyph_cells text wide a) flag (pen_at r c a)) (sym n))))
           xs h full prints w (λ _. full) (may t);
-      there = ap (λ (c : ℕ). pen_in pen.form r c (attrs_of (last_glyph xs))) w;
+      there = ap (λ (c : ℕ). record (pen_after pen.form r xs) { col = c }) w;
     })
   where
     some_columns : (wide : Bool) → 0 < glyph_columns wide
@@ -412,7 +412,7 @@ broken_draws May base done below xs flag wanted r height pen reads e rows w h so
 
 -- ---- a whole row
 
-drop_whole : (xs ys : List CellValue) → length xs ≡ length ys → xs ++ drop (length xs) ys ≡ xs
+pub drop_whole : (xs ys : List CellValue) → length xs ≡ length ys → xs ++ drop (length xs) ys ≡ xs
 drop_whole [] [] h = refl
 drop_whole [] (y ∷ ys) h = absurd (omega arith)
 drop_whole (x ∷ xs) [] h = absurd (omega arith)

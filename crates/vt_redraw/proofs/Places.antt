@@ -193,7 +193,7 @@ at_drop zero ys = refl
 at_drop (suc n) [] = refl
 at_drop (suc n) (y ∷ ys) = at_drop n ys
 
-at_after : (o y : CellValue) (ys : List CellValue) (n : ℕ) → at (cells_after_cut o (y ∷ ys)) (suc n) ≡ at (drop n ys) 0
+pub at_after : (o y : CellValue) (ys : List CellValue) (n : ℕ) → at (cells_after_cut o (y ∷ ys)) (suc n) ≡ at (drop n ys) 0
 at_after o (blank a) ys n = sym (at_drop n ys)
 at_after o (glyph text wide a) ys n = sym (at_drop n ys)
 at_after o right_half ys n = sym (at_drop n ys)
@@ -232,7 +232,7 @@ run_in_fixed May base done below pre o y ys flag r c n attrs e l h fits le sound
 
 -- ---- a run of blanks in either form
 
-drop_next : (n : ℕ) (ys zs : List CellValue) (z : CellValue) → drop n ys ≡ z ∷ zs → drop (suc n) ys ≡ zs
+pub drop_next : (n : ℕ) (ys zs : List CellValue) (z : CellValue) → drop n ys ≡ z ∷ zs → drop (suc n) ys ≡ zs
 drop_next zero [] zs z h = absurd cc
 drop_next zero (y ∷ ys) zs z h = ap (drop 1) h
 drop_next (suc n) [] zs z h = absurd cc
@@ -261,7 +261,7 @@ starts_half (blank a ∷ zs) t = absurd cc
 starts_half (glyph text wide a ∷ zs) t = absurd cc
 starts_half (right_half ∷ zs) t = refl
 
-paired_start : (zs : List CellValue) → Paired zs → is_right_half (at zs 0) ≡ false
+pub paired_start : (zs : List CellValue) → Paired zs → is_right_half (at zs 0) ≡ false
 paired_start [] h = refl
 paired_start (blank a ∷ zs) h = refl
 paired_start (glyph text wide a ∷ zs) h = refl

@@ -24,7 +24,7 @@ use Rattle.vt_redraw.proofs.Texts.{Grows, Prints, mark_column_is, marked_cell, n
 use Rattle.vt_redraw.proofs.Touched.{some_same}
 
 -- A character that scrolls no row off the page is printed as on any canvas.
-printed : (c : ℕ) (canvas after : Canvas) → drawn_char c canvas ≡ Some after → canvas_after_print c canvas ≡ after
+pub printed : (c : ℕ) (canvas after : Canvas) → drawn_char c canvas ≡ Some after → canvas_after_print c canvas ≡ after
 printed c canvas after e = by_case (pushes c canvas.page) e where
   by_case : (b : Bool) → (if b then None else Some (canvas_after_print c canvas)) ≡ Some after →
       canvas_after_print c canvas ≡ after
@@ -57,7 +57,7 @@ not_carried base done below pre o y ys flag r c text was wide attrs m room at_sp
     (λ same. let k : glyph_columns was ≡ 1 = ap glyph_columns narrow in
     let l = room_for wide c base.page.width at_spot.fits (more t) in absurd (omega (arith, k, l, same))))
 
-marks_join : (ms : List ℕ) (base : Canvas) (done below : List RowValue) (pre : List CellValue) (o y : CellValue)
+pub marks_join : (ms : List ℕ) (base : Canvas) (done below : List RowValue) (pre : List CellValue) (o y : CellValue)
     (ys : List CellValue) (flag : Bool) (r c : ℕ) (text : List ℕ) (was : Bool) (attrs : Attrs) (last : Bool)
     (whole : List ℕ) → Grows base.page.width was text ms last whole → Spot base done pre o y ys flag r c last →
     AreJoined ms (put base done below pre ys flag r c text was attrs)

@@ -37,7 +37,7 @@ pub record DrawsPortably (ops : List Op) (doubts : Doubts) (a : Canvas) (left : 
   pub portable : PortableOps ops doubts a
   pub leaves : Leaves ops doubts a left
 
-portable_then : (xs ys : List Op) (doubts middle : Doubts) (a b : Canvas) → PortableOps xs doubts a → Draws xs a b →
+pub portable_then : (xs ys : List Op) (doubts middle : Doubts) (a b : Canvas) → PortableOps xs doubts a → Draws xs a b →
     Leaves xs doubts a middle → PortableOps ys middle b → PortableOps (xs ++ ys) doubts a
 portable_then [] ys doubts middle a b p d l q =
     subst (λ (z : Doubts). PortableOps ys z a) (sym l) (subst (PortableOps ys middle) (sym (some_same a b d)) q)
@@ -47,7 +47,7 @@ portable_then (x ∷ xs) ys doubts middle a b p d l q = (
       (sym (ap (λ (z : Option Canvas). and_then (drawn_all xs) z) e) ∙ d) (l next e) q,
 )
 
-leaves_then : (xs ys : List Op) (doubts middle left : Doubts) (a b : Canvas) → Draws xs a b →
+pub leaves_then : (xs ys : List Op) (doubts middle left : Doubts) (a b : Canvas) → Draws xs a b →
     Leaves xs doubts a middle → Leaves ys middle b left → Leaves (xs ++ ys) doubts a left
 leaves_then [] ys doubts middle left a b d l m =
     subst (λ (z : Doubts). Leaves ys z a left) (sym l)
@@ -149,7 +149,7 @@ pub record Keeps (ops : List Op) (doubts : Doubts) (canvas : Canvas) : Type 0 wh
   pub portable : PortableOps ops doubts canvas
   pub leaves : Leaves ops doubts canvas left
 
-normal_apart : (was : Intensity) → piles_up was Normal ≡ false
+pub normal_apart : (was : Intensity) → piles_up was Normal ≡ false
 normal_apart Normal = refl
 normal_apart Bold = refl
 normal_apart Dim = refl

@@ -17,6 +17,7 @@ use Rattle.vt_redraw.proofs.Edits.{mid}
 use Rattle.vt_redraw.proofs.Lets.{Lets}
 use Rattle.vt_redraw.proofs.Places.{PrintsCells, Place, Ready, Wrote}
 use Rattle.vt_redraw.proofs.Row.{cells_draw}
+use Rattle.vt_redraw.proofs.Link.{RowMay}
 
 -- The predicate that allows every position to be touched.
 abbrev pub Any : ℕ → ℕ → Type 0
@@ -28,6 +29,10 @@ lets_any r c (x ∷ xs) [] = tt
 lets_any r c (blank a ∷ xs) (y ∷ ys) = (tt, lets_any r (c + 1) xs ys)
 lets_any r c (glyph text wide a ∷ xs) (y ∷ ys) = (λ _. (tt, λ _. tt), lets_any r (c + 1) xs ys)
 lets_any r c (right_half ∷ xs) (y ∷ ys) = lets_any r (c + 1) xs ys
+
+pub any_row : (width r : ℕ) (x y : RowValue) → RowMay Any width r x y
+any_row width r x y =
+    record { lets = lets_any r 0 x.cells y.cells; begin = tt; second = λ _. tt; last = λ k low high. tt }
 
 pub begun_paired : (xs : List CellValue) → Paired xs → with_whole_start xs ≡ xs
 begun_paired [] h = refl

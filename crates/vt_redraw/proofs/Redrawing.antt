@@ -30,7 +30,7 @@ page_picture canvas is = record {
 }
 
 -- A blank picture of the size of a valid picture is valid.
-blank_is : (picture : Picture) → IsPicture picture → IsPicture (blank_like picture)
+pub blank_is : (picture : Picture) → IsPicture picture → IsPicture (blank_like picture)
 blank_is picture is =
     let blank = blank_row default_attrs picture.width in
     let height = length picture.rows in
@@ -47,7 +47,7 @@ blank_is picture is =
     }
 
 -- The canvas after it is cleared for a redraw.
-abbrev clear_canvas : Picture → Canvas → Canvas
+abbrev pub clear_canvas : Picture → Canvas → Canvas
 clear_canvas self any = record any {
   page = record (any.page)
       { rows = replicate (length self.rows) (blank_row default_attrs self.width); row = 0; column = 0 };

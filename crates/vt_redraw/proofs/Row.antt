@@ -12,7 +12,7 @@ use Rattle.vt_rows.specs.Cells.{blanks, cells_after_cut}
 use Rattle.vt_rows.specs.Row.{RowValue}
 use Rattle.vt_grid.specs.Canvas.{Canvas}
 use Rattle.vt_cells.specs.Glyph.{glyph_columns}
-use Rattle.vt_redraw.specs.Script.{blank_run, erase_run, is_blank_of, pen_in}
+use Rattle.vt_redraw.specs.Script.{blank_run, erase_run, is_blank_of, pen_in, pen_past, shifts}
 use Rattle.vt_redraw.specs.declared.pen.Pen.{Pen}
 use Rattle.vt_redraw.proofs.Steps.{Within}
 use Rattle.vt_redraw.proofs.Runs.{run_bound, run_blanks, blank_of_is}
@@ -29,7 +29,7 @@ use Rattle.vt_redraw.proofs.Places.{PrintsCells, Place, next_place, shown, Ready
 use Rattle.vt_redraw.proofs.Places.{wrote_after, shifted, doing_draws, run_in, run_flagged}
 use Rattle.vt_redraw.specs.declared.form.Form.{Form}
 
-run_paired : (a : Attrs) (xs : List CellValue) → Paired xs → Paired (drop (blank_run a xs) xs)
+pub run_paired : (a : Attrs) (xs : List CellValue) → Paired xs → Paired (drop (blank_run a xs) xs)
 run_paired a [] h = tt
 run_paired a (x ∷ xs) h =
     cond_both (is_blank_of a x) (1 + blank_run a xs) 0 (λ (n : ℕ). Paired (drop n (x ∷ xs)))
@@ -40,23 +40,24 @@ run_paired a (x ∷ xs) h =
     subst (λ (n : ℕ). Paired (drop n (x ∷ xs))) (sym e) more)
     (λ _. h)
 
-after_wide : (text : List ℕ) (a : Attrs) (y : CellValue) (ys : List CellValue) →
+pub after_wide : (text : List ℕ) (a : Attrs) (y : CellValue) (ys : List CellValue) →
     Paired (glyph text true a ∷ y ∷ ys) → (y ≡ right_half) × Paired ys
 after_wide text a right_half ys h = (refl, h)
 after_wide text a (blank b) ys h = absurd h
 after_wide text a (glyph other wide b) ys h = absurd h
 
 -- A pen in the row, at most directly after its last column, is within the page.
-pen_within : (base : Canvas) (done below : List RowValue) (pre : List CellValue) (r c height left col : ℕ)
-    (form : Form) (a : Attrs) →
-    Place base done below pre r c height left → col ≤ c + left → Within (pen_in form r col a) height base.page.width
-pen_within base done below pre r c height left col form a at h =
+pub pen_within : (base : Canvas) (done below : List RowValue) (pre : List CellValue) (r c height left col : ℕ)
+    (form : Form) (a : Attrs) (shifted : Bool) →
+    Place base done below pre r c height left → col ≤ c + left →
+    Within (record (pen_in form r col a) { is_shifted = shifted }) height base.page.width
+pen_within base done below pre r c height left col form a shifted at h =
     let rows = at.rows in
     let columns = at.columns in
     record { row = omega arith; col = omega arith }
 
 -- If enough columns are left, there is room for a glyph at the current position.
-glyph_spot : (base : Canvas) (done below : List RowValue) (pre : List CellValue)
+pub glyph_spot : (base : Canvas) (done below : List RowValue) (pre : List CellValue)
     (o y : CellValue) (ys : List CellValue) (flag : Bool) (r c height left : ℕ) (wide : Bool) →
     Place base done below pre r c height left → glyph_columns wide ≤ left → Paired pre →
     Sound flag (pre ++ cells_after_cut o (y ∷ ys)) → Spot base done pre o y ys flag r c wide
@@ -195,7 +196,7 @@ cells_draw May base done below (blank a ∷ xs) (y ∷ ys) pre o r c zero pen fl
     (ready_next (blank a) xs ys pre left n now (omega arith) h.tail le
     (paired_append pre (blank a ∷ take n xs) front (subst Paired taken (paired_blanks n a)))
     (run_paired a xs h.new) (loose_drop n ys (loose_step y ys h.old)) sound) prints.1
-    (pen_within base done below pre r c height (suc (length ys)) c pen.form a at (omega arith)) more)))
+    (pen_within base done below pre r c height (suc (length ys)) c pen.form a false at (omega arith)) more)))
 cells_draw May base done below (glyph text false a ∷ xs) (y ∷ ys)
     pre o r c zero pen flag height at h prints within lets =
     let front : Paired pre = subst Paired (append-nil pre) h.behind in
@@ -205,7 +206,7 @@ cells_draw May base done below (glyph text false a ∷ xs) (y ∷ ys)
     let here = at.columns in
     let now = wrapped_after_glyph flag false (drop 1 ys) in
     let more = lets.1 in
-    let q = pen_in pen.form r (c + 1) a in
+    let q = pen_past pen.form r (c + 1) a text in
     let next = next_place base done below pre x r c height (length ys) at in
     cond_both (same_cell x y) (cells_written r (c + 1) pen flag 0 xs ys)
     (ops_then (placed_op pen r c a (Print text)) (cells_written r (c + 1) q now 0 xs ys))
@@ -241,7 +242,7 @@ cells_draw May base done below (glyph text false a ∷ xs) (y ∷ ys)
     (ready_next x xs ys pre (orphan false a) 0 now (omega arith) h.tail
     (omega arith) (paired_append pre (x ∷ []) front tt) h.new (loose_step y ys h.old)
     (sound_kept flag (with_glyph pre text false a ys) now (glyph_flag pre o y ys flag text false a h.sound))) prints.1
-    (pen_within base done below pre r c height (suc (length ys)) (c + 1) pen.form a at (omega arith)) more)))
+    (pen_within base done below pre r c height (suc (length ys)) (c + 1) pen.form a (shifts pen.form text) at (omega arith)) more)))
 cells_draw May base done below (glyph text true a ∷ []) (y ∷ ys)
     pre o r c zero pen flag height at h prints within lets = absurd h.new
 cells_draw May base done below (glyph text true a ∷ blank b ∷ xs)
@@ -260,7 +261,7 @@ cells_draw May base done below (glyph text true a ∷ right_half ∷ xs)
     let here = at.columns in
     let now = wrapped_after_glyph flag true ys in
     let more = lets.1 in
-    let q = pen_in pen.form r (c + 2) a in
+    let q = pen_past pen.form r (c + 2) a text in
     let next = next_place base done below pre x r c height (suc (length ys)) at in
     let w1 = cells_written r (c + 1) pen flag 1 xr (y2 ∷ ys) in
     let w2 = cells_written r (c + 1) q now 1 xr (y2 ∷ ys) in
@@ -299,4 +300,4 @@ cells_draw May base done below (glyph text true a ∷ right_half ∷ xs)
     (sound_kept flag (with_glyph pre text true a (y2 ∷ ys)) now
     (glyph_flag pre o y (y2 ∷ ys) flag text true a h.sound)))
     prints.1
-    (pen_within base done below pre r c height (suc (suc (length ys))) (c + 2) pen.form a at (omega arith)) more)))
+    (pen_within base done below pre r c height (suc (suc (length ys))) (c + 2) pen.form a (shifts pen.form text) at (omega arith)) more)))

@@ -52,7 +52,7 @@ same_flag : (on wrapped : Bool) → wrapped ≡ false → (on ≡ true → wrapp
 same_flag true wrapped h k = sym (k refl)
 same_flag false wrapped h k = sym h
 
-step_joins : (May : ℕ → ℕ → Type 0) (base : Canvas) (done below : List RowValue)
+pub step_joins : (May : ℕ → ℕ → Type 0) (base : Canvas) (done below : List RowValue)
     (above x y : RowValue) (on : Bool) (r height : ℕ) (pen : Pen) →
     Reads base height base.page.width → length done ≡ r → r + suc (suc (length below)) ≡ height →
     Stands base.page.width above → Stands base.page.width x → Stands base.page.width y →
@@ -60,15 +60,15 @@ step_joins : (May : ℕ → ℕ → Type 0) (base : Canvas) (done below : List R
     (on ≡ true → above.wrapped ≡ true) → Within pen height base.page.width →
     (on ≡ false → above.wrapped ≡ true → (k : ℕ) → last_column above.cells ≤ k → k < base.page.width → May r k) →
     (((on ≡ false) × (above.wrapped ≡ true)) ⊎ (x ≢ y) → RowMay May base.page.width (r + 1) x y) →
-    Joins May (link_of r pen above on x y) base done below
+    Joins May pen.form pen.is_shifted (link_of r pen above on x y) base done below
     (two base done below above.cells on y.cells y.wrapped pen) above.cells above.wrapped x.cells y.cells height
 step_joins May base done below above x y on r height pen reads
     e rows ha hx hy above_prints prints keeps within last near =
     let start = two base done below above.cells on y.cells y.wrapped pen in
     cond_both above.wrapped (row_link r pen above.cells on y.wrapped x.cells y.cells) (no_link pen y.wrapped)
-    (λ (j : Linked). Joins May j base done below start above.cells above.wrapped x.cells y.cells height)
+    (λ (j : Linked). Joins May pen.form pen.is_shifted j base done below start above.cells above.wrapped x.cells y.cells height)
     (λ (t : above.wrapped ≡ true).
-    subst (λ (z : Bool). Joins May (row_link r pen above.cells on y.wrapped x.cells y.cells)
+    subst (λ (z : Bool). Joins May pen.form pen.is_shifted (row_link r pen above.cells on y.wrapped x.cells y.cells)
     base done below start above.cells z x.cells y.cells height)
     (sym t)
     (link_draws May base done below above.cells x.cells y.cells on y.wrapped r height pen reads e rows ha.columns
@@ -113,7 +113,7 @@ linked_same r pen above on flag xs h sound =
     (no_link pen flag) (λ (j : Linked). j.flag ≡ flag)
     (λ _. first_same (r + 1) (after_last_glyph r pen above).pen flag xs h sound) (λ _. refl)
 
-link_same : (r : ℕ) (pen : Pen) (above : RowValue) (on : Bool) (x y : RowValue) → Paired x.cells →
+pub link_same : (r : ℕ) (pen : Pen) (above : RowValue) (on : Bool) (x y : RowValue) → Paired x.cells →
     Sound y.wrapped x.cells → x ≡ y → (link_of r pen above on x y).flag ≡ y.wrapped
 link_same r pen above on x y h sound e =
     cond_both above.wrapped (row_link r pen above.cells on y.wrapped x.cells y.cells)
@@ -130,7 +130,7 @@ row_same r k pen flag x y e f =
     ∙ ap (λ (w : Scripted). w.flag) (row_nothing r k pen x))
 
 -- If a row must be wrapped and the terminal's row ceased to be wrapped, the two rows differ.
-fell : (r k : ℕ) (pen : Pen) (flag : Bool) (x y : RowValue) → (x ≡ y → flag ≡ y.wrapped) →
+pub fell : (r k : ℕ) (pen : Pen) (flag : Bool) (x y : RowValue) → (x ≡ y → flag ≡ y.wrapped) →
     (row_written r k pen flag x y.cells).flag ≡ false → x.wrapped ≡ true → x ≢ y
 fell r k pen flag x y same f t e = let s = row_same r k pen flag x y e (same e) in cc
 

@@ -5,7 +5,7 @@ use Rattle.std.specs.Prelude.{if◌then◌else◌}
 use Rattle.std.proofs.lemmas.Bool.{cond_both}
 use Rattle.vt_cells.specs.Attrs.{default_attrs, same_attrs, same_bool, Attrs}
 use Rattle.vt_cells.specs.Cell.{CellValue, blank, glyph, right_half, attrs_of, text_of, same_cell}
-use Rattle.vt_cells.specs.Op.{Op, Hide, MoveTo, MoveRight, NextRow, LineFeed, EraseChars, ClearAttrs}
+use Rattle.vt_cells.specs.Op.{Op, Hide, MoveTo, MoveRight, NextRow, LineFeed, EraseChars, ClearAttrs, cursor_move_ops}
 use Rattle.vt_cells.specs.Op.{SaveCursor, RestoreCursor, ChangeAttrs, Print}
 use Rattle.vt_cells.specs.Glyph.{glyph_columns}
 use Rattle.vt_rows.specs.Cells.{at}
@@ -18,11 +18,12 @@ use Rattle.vt_redraw.specs.Picture.{Picture}
 use Rattle.vt_redraw.specs.Script.{move_ops, attr_ops, blank_run, erase_run, no_ops, ops_then, placed_op, back_op}
 use Rattle.vt_redraw.specs.Script.{after_last_glyph, cells_written, is_at, last_column, last_glyph, pen_after, resets}
 use Rattle.vt_redraw.specs.Script.{Scripted, no_link, first_written, starts_other, ops_then_link, row_link, attr_ops_in}
-use Rattle.vt_redraw.specs.Script.{break_ops, row_break, wrapped_after_erasure, wrapped_after_glyph, pen_in}
+use Rattle.vt_redraw.specs.Script.{break_ops, row_break, wrapped_after_erasure, wrapped_after_glyph, pen_in, pen_past}
 use Rattle.vt_redraw.specs.Redraw.{row_written, link_of, rows_below, rows_written, nearest, over_blank, under_last}
 use Rattle.vt_redraw.specs.Redraw.{blank_passed, pending_at, cursor_written, pen_of, cursor_visibility_ops, difference}
 use Rattle.vt_redraw.specs.Redraw.{blank_like, redraw, pending_alone, cursor_state, script_in, difference_in, redraw_in}
 use Rattle.vt_redraw.specs.Script.{change_ops, erased_count}
+use Rattle.vt_redraw.specs.Redraw.{strays}
 
 -- Whether the cursor has been saved after an operation, given whether it was saved before.
 abbrev pub saved_after : Bool → Op → Bool
@@ -51,10 +52,11 @@ safe_append xs ys h k saved = saves_then xs ys saved (h saved) k
 going_safe : (pen : Pen) (r c : ℕ) → IsSafe (move_ops pen r c)
 unfolding move_ops
 going_safe pen r c =
-    cond_both ((r == pen.row + 1) && (c == 0)) (NextRow ∷ []) _ IsSafe (λ _. λ s. (tt, tt))
+    cond_both pen.is_shifted (MoveTo r c ∷ []) (cursor_move_ops pen.row pen.col r c) IsSafe (λ _. λ s. (tt, tt))
+    (λ _. cond_both ((r == pen.row + 1) && (c == 0)) (NextRow ∷ []) _ IsSafe (λ _. λ s. (tt, tt))
     (λ _. cond_both ((r == pen.row) && nat_lt pen.col c) (MoveRight (c - pen.col) ∷ []) _ IsSafe (λ _. λ s. (tt, tt))
     (λ _. cond_both ((r == pen.row) && (c == pen.col)) [] (MoveTo r c ∷ []) IsSafe (λ _. λ s. tt)
-    (λ _. λ s. (tt, tt))))
+    (λ _. λ s. (tt, tt)))))
 
 pub changing_safe : (form : Form) (was new : Attrs) → IsSafe (attr_ops_in form was new)
 unfolding attr_ops_in
@@ -99,7 +101,7 @@ cells_safe r c pen flag zero (blank a ∷ xs) (y ∷ ys) =
     (cells_safe r (c + 1) (pen_in pen.form r c a) (wrapped_after_erasure flag (drop n ys)) n xs ys))
 cells_safe r c pen flag zero (glyph text wide a ∷ xs) (y ∷ ys) =
     let k = glyph_columns wide - 1 in
-    let next = pen_in pen.form r (c + glyph_columns wide) a in
+    let next = pen_past pen.form r (c + glyph_columns wide) a text in
     let now = wrapped_after_glyph flag wide (drop 1 ys) in
     let rest = cells_written r (c + 1) next now k xs ys in
     cond_both (same_cell (glyph text wide a) y) (cells_written r (c + 1) pen flag k xs ys)
@@ -204,28 +206,34 @@ passed_safe form r c was attrs s = (
       (changing_safe form was attrs) (erased_safe form r c was attrs) s,
 )
 
+over_safe : (pen : Pen) (r width : ℕ) (b : Attrs) → IsSafe (over_blank pen r width b)
+unfolding over_blank
+over_safe pen r width b =
+    safe_append (move_ops pen r (width - 1)) (blank_passed pen.form r (width - 1) pen.attrs b) (going_safe pen r (width - 1))
+    (passed_safe pen.form r (width - 1) pen.attrs b)
+
 pending_safe : (found : Option ℕ) (pen : Pen) (width : ℕ) (rows : List RowValue) (r : ℕ) →
     IsSafe (pending_at found pen width rows r)
 unfolding over_blank under_last
-pending_safe None pen width rows r =
-    let b = attrs_of (at (row_or width rows r).cells (width - 1)) in
-    safe_append (move_ops pen r (width - 1)) (blank_passed pen.form r (width - 1) pen.attrs b) (going_safe pen r (width - 1))
-    (passed_safe pen.form r (width - 1) pen.attrs b)
+pending_safe None pen width rows r = over_safe pen r width (attrs_of (at (row_or width rows r).cells (width - 1)))
 pending_safe (Some i) pen width rows r =
-    let w = after_last_glyph i pen (row_or width rows i).cells in
-    safe_append w.ops (attr_ops_in pen.form w.pen.attrs pen.attrs ++ replicate (r - i) LineFeed)
-    (after_safe i pen (row_or width rows i).cells)
-    (safe_append (attr_ops_in pen.form w.pen.attrs pen.attrs) (replicate (r - i) LineFeed) (changing_safe pen.form w.pen.attrs pen.attrs)
-    (feeds_safe (r - i)))
+    let cells = (row_or width rows i).cells in
+    let b = attrs_of (at (row_or width rows r).cells (width - 1)) in
+    let w = after_last_glyph i pen cells in
+    cond_both (strays pen.form w.pen.is_shifted && nat_lt i r) (over_blank pen r width b) (under_last pen i r cells) IsSafe
+    (λ _. over_safe pen r width b)
+    (λ _. safe_append w.ops (attr_ops_in pen.form w.pen.attrs pen.attrs ++ replicate (r - i) LineFeed)
+    (after_safe i pen cells)
+    (safe_append (attr_ops_in pen.form w.pen.attrs pen.attrs) (replicate (r - i) LineFeed)
+    (changing_safe pen.form w.pen.attrs pen.attrs) (feeds_safe (r - i))))
 
 cursor_safe : (pen : Pen) (width : ℕ) (rows : List RowValue) (r c : ℕ) → IsSafe (cursor_written pen width rows r c)
 unfolding cursor_written
 cursor_safe pen width rows r c =
-    cond_both (is_at pen r c) []
-    (if nat_lt c width then move_ops pen r c else pending_at (nearest width rows r) pen width rows r) IsSafe
-    (λ _. λ s. tt)
-    (λ _. cond_both (nat_lt c width) (move_ops pen r c) (pending_at (nearest width rows r) pen width rows r) IsSafe
-    (λ _. going_safe pen r c) (λ _. pending_safe (nearest width rows r) pen width rows r))
+    cond_both (nat_lt c width) (move_ops pen r c)
+    (if is_at pen r c then [] else pending_at (nearest width rows r) pen width rows r) IsSafe (λ _. going_safe pen r c)
+    (λ _. cond_both (is_at pen r c) [] (pending_at (nearest width rows r) pen width rows r) IsSafe (λ _. λ s. tt)
+    (λ _. pending_safe (nearest width rows r) pen width rows r))
 
 -- ---- whole pictures
 

@@ -4,7 +4,7 @@ use Rattle.std.proofs.Common.{false, List, [], ◌∷◌, length, Option, Some, 
 use Rattle.std.proofs.lemmas.Bool.{cond_both, and_parts, eqb-true, ltb-true, ne_eqb, lt-ltb}
 use Rattle.vt_cells.proofs.Same.{attrs_of-same, changed_attrs-new}
 use Rattle.vt_cells.specs.Attrs.{default_attrs, same_attrs, Attrs}
-use Rattle.vt_cells.specs.Op.{Op, MoveTo, MoveRight, NextRow, ChangeAttrs, ClearAttrs}
+use Rattle.vt_cells.specs.Op.{Op, MoveTo, MoveRight, NextRow, ChangeAttrs, ClearAttrs, cursor_move_ops}
 use Rattle.vt_rows.specs.Row.{RowValue}
 use Rattle.vt_grid.specs.Moves.{line_feed, moved}
 use Rattle.vt_grid.specs.declared.grid.moves.CursorMove.TheVariants.{Right}
@@ -88,7 +88,9 @@ going_draws base rows pen r c height width reads size within h l =
     let P = λ (ops : List Op). Draws ops (at_pen base rows pen) (at_pen base rows (pen_at r c pen.attrs)) in
     let bottom = reads.bottom in
     let wide = reads.wide in
-    cond_both ((r == pen.row + 1) && (c == 0)) (NextRow ∷ []) _ P
+    cond_both pen.is_shifted (MoveTo r c ∷ []) (cursor_move_ops pen.row pen.col r c) P
+    (λ _. move_to_draws base rows pen r c reads.origin (omega arith) (omega arith))
+    (λ _. cond_both ((r == pen.row + 1) && (c == 0)) (NextRow ∷ []) _ P
     (λ (t : ((r == pen.row + 1) && (c == 0)) ≡ true).
     let p = and_parts (r == pen.row + 1) (c == 0) t in
     let e = eqb-true r (pen.row + 1) p.0 in
@@ -111,7 +113,7 @@ going_draws base rows pen r c height width reads size within h l =
     let p = and_parts (r == pen.row) (c == pen.col) t in
     arrives [] (at_pen base rows pen) base rows (pen_at pen.row pen.col pen.attrs) (pen_at r c pen.attrs) refl
     (pens pen.row r pen.col c pen.attrs (sym (eqb-true r pen.row p.0)) (sym (eqb-true c pen.col p.1))))
-    (λ _. move_to_draws base rows pen r c reads.origin (omega arith) (omega arith))))
+    (λ _. move_to_draws base rows pen r c reads.origin (omega arith) (omega arith)))))
 
 -- ---- attributes
 

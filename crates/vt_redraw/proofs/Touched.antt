@@ -9,7 +9,7 @@ use Rattle.std.proofs.lemmas.List.{get_or-append_right}
 use Rattle.vt_cells.specs.Attrs.{same_attrs, Attrs, default_attrs}
 use Rattle.vt_cells.specs.Cell.{CellValue, blank, glyph, right_half, default_blank, is_wide, is_right_half}
 use Rattle.vt_cells.specs.Op.{Op, Hide, ClearAttrs, MoveTo, MoveRight, NextRow, LineFeed, Backspace, EraseBelow}
-use Rattle.vt_cells.specs.Op.{EraseRest, EraseChars, SaveCursor, RestoreCursor, ChangeAttrs, Print}
+use Rattle.vt_cells.specs.Op.{EraseRest, EraseChars, SaveCursor, RestoreCursor, ChangeAttrs, Print, cursor_move_ops}
 use Rattle.vt_rows.specs.Cells.{at}
 use Rattle.vt_rows.specs.Row.{RowValue}
 use Rattle.vt_grid.specs.Canvas.{Canvas, and_then, drawn_all}
@@ -105,9 +105,10 @@ quiet_in May ops a b h d = record { draws = d; touches = quiet_touches May ops a
 pub going_quiet : (pen : Pen) (r c : ℕ) → AllQuiet (move_ops pen r c)
 unfolding move_ops
 going_quiet pen r c =
-    cond_both ((r == pen.row + 1) && (c == 0)) (NextRow ∷ []) _ AllQuiet (λ _. (refl, tt))
+    cond_both pen.is_shifted (MoveTo r c ∷ []) (cursor_move_ops pen.row pen.col r c) AllQuiet (λ _. (refl, tt))
+    (λ _. cond_both ((r == pen.row + 1) && (c == 0)) (NextRow ∷ []) _ AllQuiet (λ _. (refl, tt))
     (λ _. cond_both ((r == pen.row) && nat_lt pen.col c) (MoveRight (c - pen.col) ∷ []) _ AllQuiet (λ _. (refl, tt))
-    (λ _. cond_both ((r == pen.row) && (c == pen.col)) [] (MoveTo r c ∷ []) AllQuiet (λ _. tt) (λ _. (refl, tt))))
+    (λ _. cond_both ((r == pen.row) && (c == pen.col)) [] (MoveTo r c ∷ []) AllQuiet (λ _. tt) (λ _. (refl, tt)))))
 
 pub changing_quiet : (form : Form) (was new : Attrs) → AllQuiet (attr_ops_in form was new)
 unfolding attr_ops_in

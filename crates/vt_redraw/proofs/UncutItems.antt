@@ -17,7 +17,7 @@ use Rattle.vt_redraw.specs.Script.{after_last_glyph, cells_written, first_writte
 use Rattle.vt_redraw.specs.declared.pen.Pen.{Pen}
 use Rattle.vt_redraw.proofs.Halves.{Paired, paired_of}
 use Rattle.vt_redraw.proofs.RangeDraws.{IsClean}
-use Rattle.vt_redraw.specs.Script.{pen_in}
+use Rattle.vt_redraw.specs.Script.{pen_in, pen_past}
 
 -- ---- ranges that cut no wide character
 
@@ -98,7 +98,7 @@ cells_off r c pen zero (blank a ∷ xs) (y ∷ ys) =
     (λ _. cells_off r (c + 1) pen zero xs ys) (λ _. cells_off r (c + 1) (pen_in pen.form r c a) n xs ys)
 cells_off r c pen zero (glyph text wide a ∷ xs) (y ∷ ys) =
     let k = glyph_columns wide - 1 in
-    let next = pen_in pen.form r (c + glyph_columns wide) a in
+    let next = pen_past pen.form r (c + glyph_columns wide) a text in
     let rest = cells_written r (c + 1) next (wrapped_after_glyph false wide (drop 1 ys)) k xs ys in
     cond_both (same_cell (glyph text wide a) y) (cells_written r (c + 1) pen false k xs ys)
     (ops_then (placed_op pen r c a (Print text)) rest) (λ (w : Scripted). w.flag ≡ false)

@@ -249,12 +249,12 @@ linked_item_draws base done below xs r height reads e rows hx h prints =
 
 -- The output for the first cell doesn't depend on the pen's position.
 first_alike : (r : ℕ) (pen other : Pen) (flag : Bool) (xs ys : List CellValue) → pen.form ≡ other.form → pen.attrs ≡ other.attrs →
-    0 < length xs → 0 < length ys → Paired xs → first_written r pen flag xs ys ≡ first_written r other flag xs ys
-first_alike r pen other flag [] ys f e n m h = absurd (omega arith)
-first_alike r pen other flag (x ∷ xs) [] f e n m h = absurd (omega arith)
-first_alike r pen other flag (right_half ∷ xs) (y ∷ ys) f e n m h = absurd h
-first_alike r pen other flag (blank a ∷ xs) (y ∷ ys) f e n m h = rw (f, e) refl
-first_alike r pen other flag (glyph text wide a ∷ xs) (y ∷ ys) f e n m h = rw (f, e) refl
+    pen.is_shifted ≡ other.is_shifted → 0 < length xs → 0 < length ys → Paired xs → first_written r pen flag xs ys ≡ first_written r other flag xs ys
+first_alike r pen other flag [] ys f e s n m h = absurd (omega arith)
+first_alike r pen other flag (x ∷ xs) [] f e s n m h = absurd (omega arith)
+first_alike r pen other flag (right_half ∷ xs) (y ∷ ys) f e s n m h = absurd h
+first_alike r pen other flag (blank a ∷ xs) (y ∷ ys) f e s n m h = rw (f, e) refl
+first_alike r pen other flag (glyph text wide a ∷ xs) (y ∷ ys) f e s n m h = rw (f, e, s) refl
 
 -- The item of a row below a wrapped row can be drawn with a wrap pending after a glyph at the end of the row above,
 -- which then becomes wrapped.
@@ -274,8 +274,8 @@ linked_item_wraps base done below above xs on r height reads e rows full hx h pr
     let start = two base done below above on ys false (pen_at r base.page.width default_attrs) in
     let j = first_written (r + 1) (pen_at r base.page.width default_attrs) false xs ys in
     let alike = first_alike (r + 1) (pen_at r base.page.width default_attrs)
-    (pen_at (r + 1) 0 default_attrs) false xs ys refl refl (omega arith) (omega arith) h in
-    let joins = first_draws Any Fixed base done below above xs ys on false r height default_attrs
+    (pen_at (r + 1) 0 default_attrs) false xs ys refl refl refl (omega arith) (omega arith) h in
+    let joins = first_draws Any Fixed false base done below above xs ys on false r height default_attrs
     reads.origin e reads.bottom rows hx hy pos full h (paired_blanks (length xs) default_attrs)
     (λ t. absurd (cc)) prints (lets_any (r + 1) 0 xs ys) tt (λ _. tt) in
     let begins : Begins j base top below start xs ys height = record {

@@ -1,5 +1,5 @@
 -- The writer's steps for a redraw.
-use Rattle.std.proofs.Common.{◌≡◌, ℕ, Bool, ◌&&◌, ◌||◌, sym, ap, arith, eqb-true, true, false, List, [], ◌∷◌, ◌++◌, ◌∙◌, refl}
+use Rattle.std.proofs.Common.{◌≡◌, ◌==◌, ℕ, Bool, ◌&&◌, ◌||◌, not, sym, ap, arith, eqb-true, true, false, List, [], ◌∷◌, ◌++◌, ◌∙◌, refl}
 use Rattle.std.proofs.Common.{append-nil, append_assoc}
 use Rattle.std.specs.Prelude.{if◌then◌else◌}
 use Rattle.std.proofs.lemmas.Bool.Decides.{nat_tests}
@@ -12,8 +12,9 @@ use Rattle.vt_cells.specs.declared.attrs.Intensity.{Intensity}
 use Rattle.vt_cells.specs.declared.attrs.Intensity.TheVariants.{Normal, Bold, Dim}
 use Rattle.vt_cells.specs.Attrs.{same_intensity, same_attrs, Attrs, default_attrs}
 use Rattle.vt_cells.specs.Cell.{CellValue, blank, glyph, right_half, is_blank, attrs_of}
-use Rattle.vt_cells.specs.Op.{Op, ChangeAttrs, bytes_of, bytes_of_all, change_text, cursor_move_ops, ClearAttrs}
+use Rattle.vt_cells.specs.Op.{Op, ChangeAttrs, MoveTo, bytes_of, bytes_of_all, change_text, cursor_move_ops, ClearAttrs}
 use Rattle.vt_redraw.specs.Script.{attr_ops, move_ops, is_at, is_blank_of, attr_ops_in, change_ops, swaps_intensity}
+use Rattle.vt_redraw.specs.Script.{pen_in}
 use Rattle.vt_redraw.specs.declared.pen.Pen.{Pen}
 use Rattle.vt_redraw.specs.declared.form.Form.{Form}
 use Rattle.vt_redraw.specs.Script.{resets}
@@ -80,12 +81,35 @@ change_none form was new t = rw t refl
 here : (r c row col : ℕ) → r ≡ row → c ≡ col → cursor_move_ops r c row col ≡ []
 here r c row col e f = grind (arith, nat_tests)
 
--- A move to the pen's own position has no output.
-pub going_none : (pen : Pen) (row col : ℕ) → is_at pen row col ≡ true → bytes_of_all (move_ops pen row col) ≡ []
+not_true : (b : Bool) → not b ≡ true → b ≡ false
+not_true true t = absurd cc
+not_true false t = refl
+
+-- A move to the pen's own position needs no operation, if terminals agree on this position.
+pub going_nowhere : (pen : Pen) (row col : ℕ) → (is_at pen row col && not pen.is_shifted) ≡ true →
+    move_ops pen row col ≡ []
 unfolding move_ops
-going_none pen row col t =
-    let (rows, cols) = two_parts _ _ t in
-    ap bytes_of_all (here pen.row pen.col row col (eqb-true pen.row row rows) (eqb-true pen.col col cols))
+going_nowhere pen row col t =
+    let (at, placed) = two_parts (is_at pen row col) (not pen.is_shifted) t in
+    let (rows, cols) = two_parts (pen.row == row) (pen.col == col) at in
+    let still = not_true pen.is_shifted placed in
+    ap (λ (b : Bool). if b then MoveTo row col ∷ [] else cursor_move_ops pen.row pen.col row col) still
+    ∙ here pen.row pen.col row col (eqb-true pen.row row rows) (eqb-true pen.col col cols)
+
+pub going_none : (pen : Pen) (row col : ℕ) → (is_at pen row col && not pen.is_shifted) ≡ true →
+    bytes_of_all (move_ops pen row col) ≡ []
+going_none pen row col t = ap bytes_of_all (going_nowhere pen row col t)
+
+-- A move to the pen's own position leaves the pen as it is, if terminals agree on this position.
+pub known_pen : (pen : Pen) (row col : ℕ) → (is_at pen row col && not pen.is_shifted) ≡ true →
+    pen ≡ pen_in pen.form row col pen.attrs
+known_pen pen row col t =
+    let (at, placed) = two_parts (is_at pen row col) (not pen.is_shifted) t in
+    let (rows, cols) = two_parts (pen.row == row) (pen.col == col) at in
+    let still = not_true pen.is_shifted placed in
+    ap (λ (b : Bool). record pen { is_shifted = b }) still
+    ∙ (ap (λ (r : ℕ). pen_in pen.form r pen.col pen.attrs) (eqb-true pen.row row rows)
+    ∙ ap (λ (c : ℕ). pen_in pen.form row c pen.attrs) (eqb-true pen.col col cols))
 
 -- ---- the test for a blank with given attributes
 

@@ -1,5 +1,5 @@
 -- The diff between two pictures, and the redraw of one picture, as lists of operations.
-use Rattle.std.specs.Prelude.{ℕ, suc, zero, ◌+◌, ◌-◌, nat_lt, Bool, false, List, [], ◌∷◌}
+use Rattle.std.specs.Prelude.{ℕ, suc, zero, ◌+◌, ◌-◌, ◌&&◌, nat_lt, Bool, false, List, [], ◌∷◌}
 use Rattle.std.specs.Prelude.{◌++◌, length, replicate, Option, Some, None, if◌then◌else◌}
 use Rattle.vt_cells.specs.Attrs.{default_attrs, same_bool, Attrs}
 use Rattle.vt_cells.specs.Cell.{CellValue, attrs_of, text_of}
@@ -10,7 +10,7 @@ use Rattle.vt_rows.specs.Row.{RowValue, blank_row}
 use Rattle.vt_grid.specs.Page.{row_or}
 use Rattle.vt_redraw.specs.Script.{pen_in, move_ops, attr_ops, attr_ops_in, back_op}
 use Rattle.vt_redraw.specs.declared.form.Form.{Form}
-use Rattle.vt_redraw.specs.declared.form.Form.TheVariants.{Fixed}
+use Rattle.vt_redraw.specs.declared.form.Form.TheVariants.{Fixed, Portable}
 use Rattle.vt_redraw.specs.declared.pen.Pen.{Pen}
 use Rattle.vt_redraw.specs.Picture.{Picture}
 use Rattle.vt_redraw.specs.Script.{Scripted, after_last_glyph, is_at, last_column, no_ops, ops_then}
@@ -76,15 +76,26 @@ under_last pen i r cells =
     (after_last_glyph i pen cells).ops
     ++ (attr_ops_in pen.form (after_last_glyph i pen cells).pen.attrs pen.attrs ++ replicate (r - i) LineFeed)
 
-abbrev pub pending_at : Option ℕ → Pen → ℕ → List RowValue → ℕ → List Op
+-- Whether line feeds must not follow a glyph. In the portable form, they must not if terminals may differ in where the
+-- cursor is after the glyph.
+abbrev pub strays : Form → (is_shifted : Bool) → Bool
+strays Fixed is_shifted = false
+strays Portable is_shifted = is_shifted
+
+-- The operations that make a wrap pending at the end of row `r`. `found` is the nearest row at or above row `r` whose
+-- last column is not blank.
+abbrev pub pending_at : (found : Option ℕ) → Pen → ℕ → List RowValue → ℕ → List Op
 pending_at None pen width rows r = over_blank pen r width (attrs_of (at (row_or width rows r).cells (width - 1)))
-pending_at (Some i) pen width rows r = under_last pen i r (row_or width rows i).cells
+pending_at (Some i) pen width rows r =
+    if strays pen.form (after_last_glyph i pen (row_or width rows i).cells).pen.is_shifted && nat_lt i r
+    then over_blank pen r width (attrs_of (at (row_or width rows r).cells (width - 1)))
+    else under_last pen i r (row_or width rows i).cells
 
 -- The operations that move the cursor to its final position; the pen's attributes are unchanged.
 unfoldable pub cursor_written : Pen → ℕ → List RowValue → (row column : ℕ) → List Op
 cursor_written pen width rows row column =
-    if is_at pen row column then []
-    else if nat_lt column width then move_ops pen row column
+    if nat_lt column width then move_ops pen row column
+    else if is_at pen row column then []
     else pending_at (nearest width rows row) pen width rows row
 
 -- ---- whole pictures

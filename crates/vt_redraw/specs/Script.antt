@@ -10,20 +10,37 @@ use Rattle.vt_cells.specs.Attrs.{same_attrs, default_attrs, is_bold, is_dim, Att
 use Rattle.vt_cells.specs.Op.{Op, Backspace, ChangeAttrs, ClearAttrs, EraseChars, EraseRest, MoveTo, Print}
 use Rattle.vt_cells.specs.Op.{cursor_move_ops}
 use Rattle.vt_rows.specs.Cells.{at}
+use Rattle.vt_redraw.specs.Certain.{is_certain_text}
 use Rattle.vt_redraw.specs.declared.form.Form.{Form}
 use Rattle.vt_redraw.specs.declared.form.Form.TheVariants.{Fixed, Portable}
 use Rattle.vt_redraw.specs.declared.pen.Pen.{Pen}
 
 abbrev pub pen_in : Form → ℕ → ℕ → Attrs → Pen
-pen_in form row col attrs = record { row = row; col = col; attrs = attrs; form = form }
+pen_in form row col attrs = record { row = row; col = col; attrs = attrs; form = form; is_shifted = false }
 
 -- A pen that writes the fixed form.
 abbrev pub pen_at : ℕ → ℕ → Attrs → Pen
 pen_at row col attrs = pen_in Fixed row col attrs
 
--- The operations that move the pen to a position.
+-- The pen with different attributes.
+abbrev pub pen_with : Pen → Attrs → Pen
+pen_with pen attrs = record pen { attrs = attrs }
+
+-- Whether terminals may differ in the cursor's position after they print a glyph with the given text. The fixed form
+-- does not take this into account. Glyphs of one byte are printable ASCII.
+abbrev pub shifts : Form → List ℕ → Bool
+shifts Fixed text = false
+shifts Portable text = not ((length text == 1) || is_certain_text text)
+
+-- The pen after a glyph with the given text has been printed and the cursor is at the given position.
+abbrev pub pen_past : Form → ℕ → ℕ → Attrs → List ℕ → Pen
+pen_past form row col attrs text = record (pen_in form row col attrs) { is_shifted = shifts form text }
+
+-- The operations that move the pen to a position. If terminals may differ in where the cursor is, the output names the
+-- position, even if it is the pen's.
 unfoldable pub move_ops : Pen → ℕ → ℕ → List Op
-move_ops pen row col = cursor_move_ops pen.row pen.col row col
+move_ops pen row col =
+    if pen.is_shifted then MoveTo row col ∷ [] else cursor_move_ops pen.row pen.col row col
 
 -- Whether one of the two sets of attributes is bold and the other is dim.
 abbrev pub swaps_intensity : Attrs → Attrs → Bool
@@ -138,7 +155,7 @@ cells_written r c pen flag zero (blank a ∷ xs) (y ∷ ys) =
 cells_written r c pen flag zero (glyph text wide a ∷ xs) (y ∷ ys) =
     if same_cell (glyph text wide a) y then cells_written r (c + 1) pen flag (glyph_columns wide - 1) xs ys
     else ops_then (placed_op pen r c a (Print text))
-    (cells_written r (c + 1) (pen_in pen.form r (c + glyph_columns wide) a)
+    (cells_written r (c + 1) (pen_past pen.form r (c + glyph_columns wide) a text)
     (wrapped_after_glyph flag wide (drop 1 ys)) (glyph_columns wide - 1) xs ys)
 
 -- ---- the last glyph of a row whose last column is not blank
@@ -154,7 +171,8 @@ is_at pen row col = (pen.row == row) && (pen.col == col)
 
 -- The pen after the last glyph of the given row has been printed.
 abbrev pub pen_after : Form → ℕ → List CellValue → Pen
-pen_after form r cells = pen_in form r (length cells) (attrs_of (last_glyph cells))
+pen_after form r cells =
+    pen_past form r (length cells) (attrs_of (last_glyph cells)) (text_of (last_glyph cells))
 
 -- The operations that print the last glyph of the given row again, unless the pen is already after it.
 abbrev pub after_last_glyph : ℕ → Pen → List CellValue → Scripted
@@ -193,7 +211,7 @@ first_written r pen flag (blank a ∷ xs) (y ∷ ys) = record {
 }
 first_written r pen flag (glyph text wide a ∷ xs) (y ∷ ys) = record {
   ops = attr_ops_in pen.form pen.attrs a ++ Print text ∷ [];
-  pen = pen_in pen.form r (glyph_columns wide) a;
+  pen = record (pen_in pen.form r (glyph_columns wide) a) { is_shifted = pen.is_shifted || shifts pen.form text };
   flag = wrapped_after_glyph flag wide (drop 1 ys);
   settled = glyph_columns wide;
 }

@@ -1,24 +1,20 @@
-//! The output that the cells of a row need, given the cells that the terminal
-//! displays.
+//! The output that the cells of a row need, given the cells that the terminal displays.
 //!
-//! Throughout this crate, *the terminal* is the terminal that reads the output,
-//! and `over` is the row that it displays. A cell *needs output* if the
-//! terminal does not display it already. A parameter `flag` is true if the
-//! terminal's row is wrapped.
+//! Throughout this crate, *the terminal* is the terminal that reads the output, and `over` is the row
+//! that it displays. A cell *needs output* if the terminal does not display it already. A parameter
+//! `flag` is true if the terminal's row is wrapped.
 
-ghost use Rattle.std.specs.Prelude.{◌≡◌, ◌++◌, ◌+◌, ◌<◌, ◌≤◌, ℕ, List};
-ghost use Rattle.std.specs.Prelude.{true, false, IsTrue, OnOk, drop, length};
+ghost use Rattle.std.specs.Prelude.{◌≡◌, ◌++◌, ◌+◌, ◌<◌, ◌≤◌, ℕ, List, true, false, IsTrue, OnOk, drop, length};
 ghost use Rattle.vt_cells.specs.BufferInternals.{buffered_text};
 ghost use Rattle.vt_cells.specs.Cell.{attrs_of, is_blank, is_glyph, is_wide, text_of};
 ghost use Rattle.vt_cells.specs.Op.{bytes_of, bytes_of_all};
 ghost use Rattle.vt_rows.specs.Cells.{at};
 ghost use Rattle.vt_redraw.specs.Internals.{AppendsOrStops, GathersOrStops, IsAlike, IsOther, IsRange, Leads};
-ghost use Rattle.vt_redraw.specs.Internals.{SettlesOrStops, Writes, cells_from, cells_over, columns_of, glyph_ops};
-ghost use Rattle.vt_redraw.specs.Internals.{run_ops};
+ghost use Rattle.vt_redraw.specs.Internals.{SettlesOrStops, Writes, cells_from, cells_over, columns_of, glyph_ops, run_ops};
 ghost use Rattle.vt_redraw.specs.Refusals.{RefusedOnlyIfSome};
-ghost use Rattle.vt_redraw.specs.Script.{erase_run, pen_in, wrapped_after_erasure, wrapped_after_glyph};
+ghost use Rattle.vt_redraw.specs.Script.{erase_run, pen_in, pen_past, wrapped_after_erasure, wrapped_after_glyph};
 
-use crate::form::{Form, run_count};
+use crate::form::{Form, run_count, shifts};
 use crate::passing::{next_other, stands_at};
 use crate::pen::Pen;
 use crate::picture_row::PictureRow;
@@ -29,8 +25,7 @@ use vt_cells::{Attrs, Buffer, Cell, Pos, Sink, cell};
 /// enough for a cursor movement, an SGR sequence, and the longest text of a cell.
 const RUN_ROOM: usize = 121;
 
-/// Returns the number of columns that the glyph in a cell takes: 2 if the glyph is wide, otherwise
-/// 1.
+/// Returns the number of columns that the glyph in a cell takes: 2 if it is wide, otherwise 1.
 #[inline]
 pub fn columns(cell: &Cell) -> u16
     ensures { result ≡ columns_of cell.now }
@@ -104,10 +99,12 @@ fn gather_glyph<S: Sink>(
     requires { pos.col + columns_of cell.now < 65536 }
     ensures gathers { GathersOrStops result
         (S.text sink.old) buffer.old (S.text sink.new) buffer.new (glyph_ops pen.old pos cell.now) }
-    ensures pen { OnOk result (pen.new ≡ pen_in pen.old.form pos.row (pos.col + columns_of cell.now) (attrs_of cell.now)) }
+    ensures pen { OnOk result (pen.new
+        ≡ pen_past pen.old.form pos.row (pos.col + columns_of cell.now) (attrs_of cell.now) (text_of cell.now)) }
 {
     gather_at(sink, buffer, pen, pos, cell)?;
     pen.col = pos.col + columns(cell);
+    pen.is_shifted = shifts(pen.form, cell);
     Ok(())
 }
 
@@ -159,8 +156,7 @@ fn write_erase<S: Sink>(
     }
 }
 
-/// Writes a run of `count` blanks with attributes `attrs` at a position. The pen remains at the
-/// first column of the run.
+/// Writes `count` blanks with attributes `attrs` at a position. The pen remains at the first one.
 ///
 /// # Errors
 ///
@@ -201,8 +197,7 @@ fn push_erase(buffer: &mut Buffer, form: Form, count: u16, end: u16, over: &Pict
     }
 }
 
-/// Buffers a run of `count` blanks with attributes `attrs` at a position. The pen remains at the
-/// first column of the run.
+/// Buffers `count` blanks with attributes `attrs` at a position. The pen remains at the first one.
 fn gather_run<S: Sink>(
     sink: &mut S,
     buffer: &mut Buffer,
@@ -262,8 +257,8 @@ fn is_alike(like: &Cell, own: &[Cell], others: &[Cell], col: u16) -> bool
 
 /// Buffers consecutive narrow glyphs, starting at the pen, whose text is one byte long and whose
 /// attributes are those of `like`, and moves the pen past them. Stops at a glyph that the terminal
-/// already displays or that does not fit in the buffer. `like` must itself be narrow, with a text
-/// of one byte. `flag` is true if the terminal's row is wrapped.
+/// already displays or that does not fit in the buffer. `like` must itself be such a glyph. `flag` is
+/// true if the terminal's row is wrapped.
 #[inline(always)]
 fn gather_alike(
     buffer: &mut Buffer,
@@ -278,6 +273,7 @@ fn gather_alike(
     requires one { length (text_of like.now) ≡ 1 }
     requires narrow { is_wide like.now ≡ false }
     requires attrs { pen.old.attrs ≡ attrs_of like.now }
+    requires placed { pen.old.is_shifted ≡ false }
     requires inside { pen.old.col ≤ length over.now.cells }
     ensures leads { (text : List ℕ) → Leads (buffered_text text buffer.new)
         (cells_from pen.old.row pen.new.col pen.new flag cells.now.cells over.now.cells)
@@ -328,12 +324,16 @@ fn gather_more(
     let count = columns(like);
     let mut col = pen.col;
     let mut on = *flag;
-    while bytes <= buffer.room() && is_alike(like, own, others, col) {
-        buffer.push(own[usize::from(col)].contents());
+    let mut is_shifted = pen.is_shifted;
+    while !is_shifted && bytes <= buffer.room() && is_alike(like, own, others, col) {
+        let cell = &own[usize::from(col)];
+        buffer.push(cell.contents());
+        is_shifted = shifts(pen.form, cell);
         col += count;
         on = wrapped_after_glyph(on, wide, over, col);
     }
     pen.col = col;
+    pen.is_shifted = is_shifted;
     *flag = on;
 }
 

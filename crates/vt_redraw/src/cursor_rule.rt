@@ -8,15 +8,17 @@ ghost use Rattle.std.specs.Prelude.{OnOk, IfSome, Some, length, replicate};
 ghost use Rattle.vt_cells.specs.Cell.{attrs_of};
 ghost use Rattle.vt_cells.specs.Op.{bytes_of_all};
 ghost use Rattle.vt_cells.specs.Op as op;
-ghost use Rattle.vt_rows.specs.Cells.{at};
+ghost use Rattle.vt_rows.specs.Cells.{at, IsPaired};
 ghost use Rattle.vt_grid.specs.Page.{row_or};
 ghost use Rattle.vt_redraw.specs.Internals.{AppendsOrStops};
 ghost use Rattle.vt_redraw.specs.Redraw.{blank_passed, cursor_written, nearest, over_blank};
-ghost use Rattle.vt_redraw.specs.Redraw.{cursor_alone, pending_alone, pending_at, under_last};
+ghost use Rattle.vt_redraw.specs.Redraw.{cursor_alone, pending_alone, pending_at, strays, under_last};
+ghost use Rattle.vt_redraw.specs.Script.{after_last_glyph};
 
-use crate::form::Form;
+use crate::form::{Form, shifts};
 use crate::links::{write_back, write_last};
 use crate::pen::{Pen, write_change, write_change_in};
+use crate::picture_row::PictureRow;
 use crate::view::View;
 use vt_cells::term::{BufWrite, EraseChar, LineFeed, MoveTo, RestoreCursor, SaveCursor};
 use vt_cells::{Attrs, Pos, Sink, cell};
@@ -129,9 +131,55 @@ fn write_pending<S: Sink>(sink: &mut S, pen: Pen, view: &View<'_>, row: u16) -> 
         (pending_at (nearest view.now.width view.now.rows row) pen view.now.width view.now.rows row) }
 {
     match nearest(view, row) {
-        Some(found) => write_under_last(sink, pen, view, found, row),
+        Some(found) => write_from(sink, pen, view, found, row),
         None => write_over_blank(sink, pen, view, row),
     }
+}
+
+/// Writes the sequences that leave a wrap pending at the end of row `row`. `found` is the row that
+/// [`nearest`] returns.
+fn write_from<S: Sink>(
+    sink: &mut S,
+    pen: Pen,
+    view: &View<'_>,
+    found: u16,
+    row: u16,
+) -> Result<(), S::Error>
+    requires above { found ≤ row }
+    requires inside { row < length view.now.rows }
+    ensures { AppendsOrStops result (S.text sink.old) (S.text sink.new)
+        (pending_at (Some found) pen view.now.width view.now.rows row) }
+{
+    let cells = view.row(found);
+    if strays_after_last(&pen, found, &cells) && found < row {
+        return write_over_blank(sink, pen, view, row);
+    }
+    write_under_last(sink, pen, view, found, row)
+}
+
+/// Returns whether line feeds must not follow [`write_last`]. In the portable form, they must not if
+/// terminals may differ in where the cursor is then.
+fn strays_after_last(pen: &Pen, row: u16, cells: &PictureRow<'_>) -> bool
+    requires nonempty { 0 < length cells.now.cells }
+    requires paired { IsPaired cells.now.cells }
+    ensures { result ≡ strays pen.now.form (after_last_glyph row pen.now cells.now.cells).pen.is_shifted }
+{
+    match pen.form {
+        Form::Fixed => false,
+        Form::Portable => is_shifted_after_last(pen, row, cells),
+    }
+}
+
+/// Returns whether terminals may differ in the cursor's position after [`write_last`].
+fn is_shifted_after_last(pen: &Pen, row: u16, cells: &PictureRow<'_>) -> bool
+    requires nonempty { 0 < length cells.now.cells }
+    requires paired { IsPaired cells.now.cells }
+    ensures { result ≡ (after_last_glyph row pen.now cells.now.cells).pen.is_shifted }
+{
+    if pen.is_at(row, cells.cols()) {
+        return pen.is_shifted;
+    }
+    shifts(pen.form, cells.cell(cells.last_col()))
 }
 
 /// Writes the sequences that move the cursor to its position in the picture.
@@ -146,12 +194,12 @@ pub fn write_cursor<S: Sink>(sink: &mut S, pen: Pen, view: &View<'_>) -> Result<
         (cursor_written pen view.now.width view.now.rows view.now.row view.now.column) }
 {
     let Pen { row, col, .. } = view.pen();
-    if pen.is_at(row, col) {
-        return Ok(());
-    }
     if col < view.cols() {
         let mut moved = pen;
         return moved.move_to(sink, Pos { row, col });
+    }
+    if pen.is_at(row, col) {
+        return Ok(());
     }
     write_pending(sink, pen, view, row)
 }

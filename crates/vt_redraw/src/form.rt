@@ -1,11 +1,14 @@
 //! The form of redraws and diffs, and the choices that depend on it.
 
-ghost use Rattle.std.specs.Prelude.{◌≡◌, ◌-◌, ◌<◌, ◌≤◌, length};
+ghost use Rattle.std.specs.Prelude.{◌≡◌, ◌==◌, ◌||◌, ◌-◌, ◌<◌, ◌≤◌, length, not};
+ghost use Rattle.vt_cells.specs.Cell.{text_of};
 ghost use Rattle.vt_rows.specs.Cells.{at};
-ghost use Rattle.vt_redraw.specs.Script.{erased_count, resets, run_count, swaps_intensity};
+ghost use Rattle.vt_redraw.specs.Certain.{is_certain_text};
+ghost use Rattle.vt_redraw.specs.Script.{erased_count, resets, run_count, shifts, swaps_intensity};
 
+use crate::certain::is_certain_text;
 use crate::picture_row::PictureRow;
-use vt_cells::Attrs;
+use vt_cells::{Attrs, Cell};
 
 /// The form of the output that displays a picture.
 #[derive(Clone, Copy, PartialEq, Eq, Debug)]
@@ -66,4 +69,26 @@ pub(crate) fn erased_columns(form: Form, cells: &PictureRow<'_>, col: u16) -> u1
         Form::Fixed => 1,
         Form::Portable => cells.cols() - col,
     }
+}
+
+/// Returns whether terminals may differ in the cursor's position after they print the glyph in a
+/// cell. Always returns `false` in the fixed form, which does not take this into account.
+#[inline(always)]
+pub(crate) fn shifts(form: Form, cell: &Cell) -> bool
+    ensures { result ≡ shifts form (text_of cell.now) }
+{
+    match form {
+        Form::Fixed => false,
+        Form::Portable => is_uncertain(cell),
+    }
+}
+
+/// Returns whether terminals may disagree on the width of the glyph in a cell. A glyph of one byte
+/// is printable ASCII.
+fn is_uncertain(cell: &Cell) -> bool
+    ensures { result
+        ≡ not ((length (text_of cell.now) == 1) || is_certain_text (text_of cell.now)) }
+{
+    let text = cell.contents();
+    !(text.len() == 1 || is_certain_text(text))
 }

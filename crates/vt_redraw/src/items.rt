@@ -156,6 +156,7 @@ pub fn write_row_diff<S: Sink>(
         col: start,
         attrs: Attrs::new(),
         form: Form::Fixed,
+        is_shifted: false,
     };
     let mut flag = over.wrapped();
     let pos = Pos { row, col: start };
@@ -186,6 +187,7 @@ fn write_linked<S: Sink>(sink: &mut S, row: u16, cells: &PictureRow<'_>) -> Resu
         col: 0,
         attrs: Attrs::new(),
         form: Form::Fixed,
+        is_shifted: false,
     };
     let link = write_first(sink, &mut pen, row, false, cells, &over)?;
     let mut flag = link.flag;
@@ -216,6 +218,7 @@ fn write_over_blanks<S: Sink>(
         col: pos.col,
         attrs: Attrs::new(),
         form: Form::Fixed,
+        is_shifted: false,
     };
     let mut flag = false;
     write_range(sink, &mut pen, &mut flag, pos, &cells.up_to(stop), &over)

@@ -19,12 +19,16 @@ ghost use Rattle.vt_redraw.specs.Fits.{Fits};
 ghost use Rattle.vt_grid.specs.Page.{IsPlainPage, row_at};
 ghost use Rattle.vt_redraw.specs.Items.{AwaitsItem, CutsNone, changed_row, formatted_row, going_on};
 ghost use Rattle.vt_redraw.specs.Items.{item_of_difference, item_of_redraw, row_drawn};
+ghost use Rattle.vt_redraw.specs.Doubts.{Doubts, doubts_of};
 ghost use Rattle.vt_redraw.specs.Locality.{IsLocal, MayPlace, row_of_picture};
 ghost use Rattle.vt_redraw.specs.Picture.{IsColoredPicture, IsPicture, Picture, SamePictureSize, Saved};
 ghost use Rattle.vt_redraw.specs.Picture.{picture_of, with_cursor_of, with_picture, with_saved};
-ghost use Rattle.vt_redraw.specs.Redraw.{cursor_state, difference, differences, last_picture, redraw};
+ghost use Rattle.vt_redraw.specs.PortableOps.{PortableOps};
+ghost use Rattle.vt_redraw.specs.Redraw.{cursor_state, difference, difference_in, differences, last_picture};
+ghost use Rattle.vt_redraw.specs.Redraw.{redraw, redraw_in};
 ghost use Rattle.vt_redraw.specs.Steady.{HasNoSelector, IsOfSize, IsSteady, IsSteadyCell, heart_text};
 ghost use Rattle.vt_redraw.specs.Touching.{Touches};
+ghost use Rattle.vt_redraw.specs.declared.form.Form.TheVariants.{Portable};
 
 /// States that drawing the diff between two pictures on a plain canvas that displays the first
 /// picture makes the canvas display the second. The second picture must be steady. Apart from what
@@ -62,6 +66,23 @@ pub fn redraw_draws()
     ensures { (self : Picture) → (any : Canvas) → IsPicture self → IsSteady self →
         IsPicture (picture_of any) → IsPlainPage any.page → SamePictureSize self (picture_of any) →
         (saved : Saved) × (drawn_all (redraw self) any ≡ Some (with_saved saved (with_picture self any))) }
+{}
+
+/// States that terminals agree on the effect of the portable diff between two pictures, if they
+/// display the first picture on a plain canvas and differ at most in what may differ while they
+/// display it. The second picture must be steady.
+pub fn difference_portable()
+    ensures { (self prev : Picture) → (any : Canvas) → IsPicture self → IsSteady self →
+        IsPicture prev → SamePictureSize self prev → IsPlainPage any.page → picture_of any ≡ prev →
+        PortableOps (difference_in Portable self prev) (doubts_of prev) any }
+{}
+
+/// States that terminals with a plain canvas of a steady picture's size agree on the effect of the
+/// portable redraw of the picture, whatever they display and differ in before.
+pub fn redraw_portable()
+    ensures { (self : Picture) → (any : Canvas) → (doubts : Doubts) → IsPicture self → IsSteady self →
+        IsPicture (picture_of any) → IsPlainPage any.page → SamePictureSize self (picture_of any) →
+        PortableOps (redraw_in Portable self) doubts any }
 {}
 
 /// States that two steady pictures of the same size are equal if their redraws

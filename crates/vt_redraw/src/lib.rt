@@ -6,6 +6,7 @@ pub mod band;
 pub mod band_guess;
 pub mod band_moves;
 mod cells;
+pub mod certain;
 mod cursor_rule;
 pub mod drawn_rows;
 mod erasure;

@@ -14,7 +14,7 @@ ghost use Rattle.vt_redraw.specs.Refusals.{RefusedOnlyIfSome};
 ghost use Rattle.vt_redraw.specs.Script.{after_last_glyph, back_op, first_written, is_at, starts_other};
 
 use crate::cells::{columns, print_at, wrapped_after_glyph, write_text};
-use crate::form::{Form, erased_columns};
+use crate::form::{Form, erased_columns, shifts};
 use crate::pen::Pen;
 use crate::picture_row::PictureRow;
 use vt_cells::term::{Backspace, BufWrite, EraseChar, MoveTo};
@@ -55,8 +55,10 @@ pub fn write_last<S: Sink>(
         return Ok(());
     }
     let col = cells.last_col();
-    print_at(sink, pen, Pos { row, col }, cells.cell(col))?;
+    let cell = cells.cell(col);
+    print_at(sink, pen, Pos { row, col }, cell)?;
     pen.col = cells.cols();
+    pen.is_shifted = shifts(pen.form, cell);
     Ok(())
 }
 
@@ -95,6 +97,7 @@ fn write_first_blank<S: Sink>(
     EraseChar { count: 1 }.write_buf(sink)?;
     pen.row = row;
     pen.col = 0;
+    pen.is_shifted = false;
     Ok(Link {
         flag: is_wrapped(flag, over),
         settled: 1,
@@ -129,6 +132,7 @@ fn write_first_glyph<S: Sink>(
     let settled = columns(cell);
     pen.row = row;
     pen.col = settled;
+    pen.is_shifted = pen.is_shifted || shifts(pen.form, cell);
     Ok(Link {
         flag: wrapped_after_glyph(flag, cell.is_wide(), over, settled),
         settled,
@@ -269,5 +273,6 @@ pub fn write_break<S: Sink>(
     pen.change_attrs(sink, cell::attrs(cell))?;
     write_text(sink, cell.contents())?;
     pen.col = cells.cols();
+    pen.is_shifted = shifts(pen.form, cell);
     Ok(false)
 }

@@ -1,14 +1,14 @@
 //! The pen: the cursor position and attributes of the terminal that reads the output, and the form
 //! of the output.
 
-ghost use Rattle.std.specs.Prelude.{◌≡◌, ◌+◌, ◌≤◌, ◌++◌, OnOk, length};
+ghost use Rattle.std.specs.Prelude.{◌≡◌, ◌&&◌, ◌+◌, ◌≤◌, ◌++◌, OnOk, length, not};
 ghost use Rattle.vt_cells.specs.Attrs.{default_attrs};
 ghost use Rattle.vt_cells.specs.Op.{bytes_of_all};
 ghost use Rattle.vt_redraw.specs.Internals.{AppendsOrStops};
-ghost use Rattle.vt_redraw.specs.Script.{attr_ops, attr_ops_in, move_ops, is_at, pen_at, pen_in};
+ghost use Rattle.vt_redraw.specs.Script.{attr_ops, attr_ops_in, move_ops, is_at, pen_at, pen_in, pen_with};
 
 use crate::form::{Form, resets};
-use vt_cells::term::{BufWrite, ChangeAttrs, MoveFromTo};
+use vt_cells::term::{BufWrite, ChangeAttrs, MoveFromTo, MoveTo};
 use vt_cells::{Attrs, Buffer, Pos, Sink};
 
 /// The position of the terminal's cursor, the terminal's attributes, and the form of the output.
@@ -29,6 +29,10 @@ pub struct Pen {
 
     /// The form in which output is written.
     pub form: Form,
+
+    /// Whether terminals may have the cursor in a different position, because a glyph was printed on
+    /// whose width they may disagree. The next movement then names the position.
+    pub is_shifted: bool,
 }
 
 impl Pen {
@@ -42,6 +46,7 @@ impl Pen {
             col: 0,
             attrs: Attrs::new(),
             form: Form::Fixed,
+            is_shifted: false,
         }
     }
 
@@ -53,8 +58,16 @@ impl Pen {
         self.row == row && self.col == col
     }
 
+    /// Returns whether the pen is at the given position and terminals agree that the cursor is there.
+    #[inline]
+    fn is_known_at(&self, row: u16, col: u16) -> bool
+        ensures { result ≡ (is_at self.now row col && not self.now.is_shifted) }
+    {
+        self.is_at(row, col) && !self.is_shifted
+    }
+
     /// Moves the pen to position `to`, and writes the cursor movement, or nothing if the pen is
-    /// already there.
+    /// already there and terminals agree on its position.
     ///
     /// # Errors
     ///
@@ -65,24 +78,29 @@ impl Pen {
         ensures ops { AppendsOrStops result (S.text sink.old) (S.text sink.new) (move_ops self.old to.row to.col) }
         ensures pen { OnOk result (self.new ≡ pen_in self.old.form to.row to.col self.old.attrs) }
     {
-        if self.is_at(to.row, to.col) {
+        if self.is_known_at(to.row, to.col) {
             return Ok(());
         }
         self.jump(sink, to)
     }
 
-    /// Moves the pen to a different position, and writes the cursor movement.
+    /// Moves the pen to a position, and writes the cursor movement.
     #[inline(never)]
     #[tactic(auto, unfolding(crate::specs::Script::move_ops))]
     fn jump<S: Sink>(&mut self, sink: &mut S, to: Pos) -> Result<(), S::Error>
         ensures ops { AppendsOrStops result (S.text sink.old) (S.text sink.new) (move_ops self.old to.row to.col) }
         ensures pen { OnOk result (self.new ≡ pen_in self.old.form to.row to.col self.old.attrs) }
     {
-        let from = Pos {
-            row: self.row,
-            col: self.col,
-        };
-        MoveFromTo { from, to }.write_buf(sink)?;
+        if self.is_shifted {
+            MoveTo { pos: to }.write_buf(sink)?;
+            self.is_shifted = false;
+        } else {
+            let from = Pos {
+                row: self.row,
+                col: self.col,
+            };
+            MoveFromTo { from, to }.write_buf(sink)?;
+        }
         self.row = to.row;
         self.col = to.col;
         Ok(())
@@ -98,7 +116,7 @@ impl Pen {
     #[inline]
     pub fn change_attrs<S: Sink>(&mut self, sink: &mut S, new: Attrs) -> Result<(), S::Error>
         ensures ops { AppendsOrStops result (S.text sink.old) (S.text sink.new) (attr_ops_in self.old.form self.old.attrs new) }
-        ensures pen { OnOk result (self.new ≡ pen_in self.old.form self.old.row self.old.col new) }
+        ensures pen { OnOk result (self.new ≡ pen_with self.old new) }
     {
         if self.attrs.is_same(&new) {
             return Ok(());
@@ -109,7 +127,7 @@ impl Pen {
     }
 
     /// Moves the pen to position `to`, and appends the cursor movement to `buffer`, or nothing if
-    /// the pen is already there.
+    /// the pen is already there and terminals agree on its position.
     #[inline]
     pub fn push_move(&mut self, buffer: &mut Buffer, to: Pos)
         requires { length buffer.old + 25 ≤ 256 }
@@ -117,13 +135,13 @@ impl Pen {
         ensures room { length buffer.new ≤ length buffer.old + 25 }
         ensures pen { self.new ≡ pen_in self.old.form to.row to.col self.old.attrs }
     {
-        if self.is_at(to.row, to.col) {
+        if self.is_known_at(to.row, to.col) {
             return;
         }
         self.push_jump(buffer, to);
     }
 
-    /// Moves the pen to a different position, and appends the cursor movement to `buffer`.
+    /// Moves the pen to a position, and appends the cursor movement to `buffer`.
     #[inline(never)]
     #[tactic(auto, unfolding(crate::specs::Script::move_ops))]
     fn push_jump(&mut self, buffer: &mut Buffer, to: Pos)
@@ -132,11 +150,16 @@ impl Pen {
         ensures room { length buffer.new ≤ length buffer.old + 25 }
         ensures pen { self.new ≡ pen_in self.old.form to.row to.col self.old.attrs }
     {
-        let from = Pos {
-            row: self.row,
-            col: self.col,
-        };
-        MoveFromTo { from, to }.push(buffer);
+        if self.is_shifted {
+            buffer.push_place(to);
+            self.is_shifted = false;
+        } else {
+            let from = Pos {
+                row: self.row,
+                col: self.col,
+            };
+            MoveFromTo { from, to }.push(buffer);
+        }
         self.row = to.row;
         self.col = to.col;
     }
@@ -148,7 +171,7 @@ impl Pen {
         requires { length buffer.old + 67 ≤ 256 }
         ensures text { buffer.new ≡ buffer.old ++ bytes_of_all (attr_ops_in self.old.form self.old.attrs new) }
         ensures room { length buffer.new ≤ length buffer.old + 67 }
-        ensures pen { self.new ≡ pen_in self.old.form self.old.row self.old.col new }
+        ensures pen { self.new ≡ pen_with self.old new }
     {
         if self.attrs.is_same(&new) {
             return;

@@ -75,6 +75,7 @@ impl<'a> View<'a> {
             col: pos.col,
             attrs,
             form: Form::Fixed,
+            is_shifted: false,
         };
         View {
             above,
@@ -104,6 +105,7 @@ impl<'a> View<'a> {
             col: 0,
             attrs: Attrs::new(),
             form: Form::Fixed,
+            is_shifted: false,
         };
         View {
             above,
@@ -170,6 +172,7 @@ impl<'a> View<'a> {
             col: self.pen.col,
             attrs: self.pen.attrs,
             form,
+            is_shifted: false,
         }
     }
 

@@ -1,12 +1,13 @@
-use Rattle.std.proofs.Common.{◌≡◌, ◌+◌, ◌++◌, ◌∙◌, List, ℕ, ap, arith, sym}
+use Rattle.std.proofs.Common.{◌≡◌, ◌+◌, ◌++◌, ◌∙◌, Bool, List, ℕ, ap, arith, subst, sym}
 use Rattle.std.proofs.Common.{◌<◌, drop, length}
 use Rattle.vt_cells.specs.BufferInternals.{buffered_text}
 use Rattle.vt_cells.specs.Cell.{is_wide, text_of}
 use Rattle.vt_cells.specs.Glyph.{glyph_columns}
 use Rattle.vt_rows.specs.Cells.{at}
-use Rattle.vt_redraw.specs.Internals.{cells_from}
+use Rattle.vt_redraw.specs.Internals.{Leads, cells_from}
+use Rattle.vt_redraw.specs.declared.pen.Pen.{Pen}
 use Rattle.vt_redraw.specs.Script.{pen_in}
-use Rattle.vt_redraw.proofs.Alike.{alike_inside, alike_leads, narrow_keeps, read_at}
+use Rattle.vt_redraw.proofs.Alike.{alike_inside, alike_leads, narrow_keeps, read_at, short_past}
 use Rattle.vt_redraw.proofs.CellSteps.{leads_then}
 use Rattle.vt_redraw.proofs.cells.gather_alike.Goals as goal
 
@@ -24,6 +25,7 @@ loop-own-preserved c =
     let next = l.col + 1 in
     let alike = c.is_alike.ensures c.if-is_alike.true in
     let text : 0 < length (text_of like) = omega (arith, c.requires.one) in
+    let one : length (text_of (at own l.col)) ≡ 1 = ap (λ head. head.shape.len) alike.head ∙ c.requires.one in
     let from = c.from.ensures in
     let here = alike.inside in
     let x : at own l.col ≡ c.index-own-from.result =
@@ -37,12 +39,21 @@ loop-own-preserved c =
           λ before. leads_then (buffered_text before c.args.buffer.now) (buffered_text before l.buffer)
           (buffered_text before c.push_one.new.self)
           (cells_from pen.row pen.col pen flag xs ys)
-          (cells_from pen.row l.col (pen_in pen.form pen.row l.col pen.attrs) flag xs ys)
-          (cells_from pen.row next (pen_in pen.form pen.row next pen.attrs) flag xs ys) (l.invariant.leads before)
-          (alike_leads pen.form pen.row l.col 1 pen.attrs flag flag like own others xs ys before l.buffer c.push_one.new.self alike
+          (cells_from pen.row l.col (record pen { col = l.col }) flag xs ys)
+          (cells_from pen.row next (record pen { col = next }) flag xs ys) (l.invariant.leads before)
+          (subst (λ (b : Bool). Leads (buffered_text before c.push_one.new.self)
+          (cells_from pen.row next (record pen { col = next; is_shifted = b }) flag xs ys) (buffered_text before
+          l.buffer)
+          (cells_from pen.row l.col (record pen { col = l.col; is_shifted = b }) flag xs ys)) (sym c.requires.placed)
+          (subst (λ (p : Pen). Leads (buffered_text before c.push_one.new.self) (cells_from pen.row next p flag xs ys)
+          (buffered_text before l.buffer)
+          (cells_from pen.row l.col (pen_in pen.form pen.row l.col pen.attrs) flag xs ys))
+          (short_past pen.form pen.row next pen.attrs (text_of (at own l.col)) one)
+          (alike_leads pen.form pen.row l.col 1 pen.attrs flag flag like own others xs ys before l.buffer
+          c.push_one.new.self alike
           text c.requires.attrs c.own_cells-own.ensures.first c.own_cells-own.ensures.inside
           c.own_cells-others.ensures.first c.own_cells-others.ensures.blank c.requires.range.inside
-          columns pushed flags);
+          columns pushed flags)));
       order = omega (arith, order);
       inside =
           alike_inside l.col 1 like own others xs ys alike c.own_cells-own.ensures.first

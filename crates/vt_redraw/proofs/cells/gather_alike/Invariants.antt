@@ -1,14 +1,13 @@
 use Rattle.std.proofs.Common.{◌-◌, ◌≤◌, ℕ, List, length}
 use Rattle.vt_cells.specs.BufferInternals.{buffered_text}
 use Rattle.vt_redraw.specs.Internals.{Leads, cells_from}
-use Rattle.vt_redraw.specs.Script.{pen_in}
 use Rattle.vt_redraw.proofs.cells.gather_alike.Given as goal
 
 -- The loop invariant: after the buffered glyphs, the output of the remaining cells leads to the whole output.
 abbrev pub invariant-loop-own : goal.invariant-loop-own
 invariant-loop-own l = record {
   leads : (text : List ℕ) → Leads (buffered_text text l.buffer)
-      (cells_from l.pen.row l.col (pen_in l.pen.form l.pen.row l.col l.pen.attrs) l.flag l.cells.cells l.over.cells)
+      (cells_from l.pen.row l.col (record l.pen { col = l.col }) l.flag l.cells.cells l.over.cells)
       (buffered_text text l.fn.buffer)
       (cells_from l.pen.row l.pen.col l.pen l.flag l.cells.cells l.over.cells);
   order : l.pen.col ≤ l.col;

@@ -4,7 +4,7 @@ use Rattle.vt_cells.specs.BufferInternals.{buffered_text}
 use Rattle.vt_cells.specs.Cell.{attrs_of, is_blank, is_glyph, is_wide, text_of}
 use Rattle.vt_cells.specs.Glyph.{glyph_columns}
 use Rattle.vt_cells.specs.Op.{Print, bytes_of_all}
-use Rattle.vt_redraw.specs.Script.{pen_in, placed_op, wrapped_after_glyph}
+use Rattle.vt_redraw.specs.Script.{pen_past, placed_op, wrapped_after_glyph}
 use Rattle.vt_redraw.proofs.Alike.{alike_settles, other_glyph, some_columns}
 use Rattle.vt_redraw.proofs.CellSteps.{glyph_leads}
 use Rattle.vt_redraw.proofs.Refusals.{buffer_some, start_some}
@@ -27,7 +27,7 @@ returns-in_err-gather_glyph g c =
           on_err c.from_residual.result
           (buffer_some c.args.buffer.now bytes _
           (start_some bytes _ _
-          (glyph_leads row col n c.args.pen.now (pen_in c.args.pen.now.form row (col + n) (attrs_of x))
+          (glyph_leads row col n c.args.pen.now (pen_past c.args.pen.now.form row (col + n) (attrs_of x) (text_of x))
           c.args.flag.now (wrapped_after_glyph c.args.flag.now (is_wide x) (drop (col + n) ys)) c.args.cells.now.cells ys x []
           bytes c.cell-cell.ensures c.requires.other.inside c.requires.other.range.inside c.requires.other.other
           (ap is_blank c.cell-cell.ensures ∙ c.requires.glyph) refl refl refl refl))

@@ -1,17 +1,17 @@
-use Rattle.std.proofs.Common.{◌≡◌, ◌+◌, ◌++◌, ◌∙◌, List, ℕ, ap, arith, sym}
+use Rattle.std.proofs.Common.{◌≡◌, ◌+◌, ◌++◌, ◌∙◌, Bool, List, ℕ, ap, arith, false, subst, sym}
 use Rattle.std.proofs.Common.{drop}
 use Rattle.vt_cells.specs.BufferInternals.{buffered_text}
 use Rattle.vt_cells.specs.Cell.{text_of}
 use Rattle.vt_rows.specs.Cells.{at}
-use Rattle.vt_redraw.specs.Internals.{cells_from}
-use Rattle.vt_redraw.specs.Script.{pen_in, wrapped_after_glyph}
+use Rattle.vt_redraw.specs.Internals.{Leads, cells_from}
+use Rattle.vt_redraw.specs.Script.{pen_in, pen_past, shifts, wrapped_after_glyph}
 use Rattle.vt_redraw.proofs.Alike.{alike_inside, alike_leads, glyph_text, read_at}
 use Rattle.vt_redraw.proofs.CellSteps.{leads_then}
 use Rattle.vt_redraw.proofs.cells.gather_more.Goals as goal
 
-pub loop-own-preserved : goal.loop-own-preserved
-loop-own-preserved c =
-    let l = c.loop-own in
+pub loop-is_shifted-preserved : goal.loop-is_shifted-preserved
+loop-is_shifted-preserved c =
+    let l = c.loop-is_shifted in
     let xs = c.args.cells.now.cells in
     let ys = c.args.over.now.cells in
     let own = c.own_cells-own.result.now in
@@ -31,18 +31,37 @@ loop-own-preserved c =
     c.push.ensures ∙ ap (λ (more : List ℕ). l.buffer ++ more) (c.contents.ensures.value ∙ ap text_of (sym x)) in
     let flags : on ≡ wrapped_after_glyph l.on _ (drop next ys) =
     c.wrapped_after_glyph-on.ensures ∙ ap (λ w. wrapped_after_glyph l.on w (drop next ys)) c.is_wide-wide.ensures in
+    let shifted = c.shifts-is_shifted.result in
+    let after : shifted ≡ shifts pen.form (text_of (at own l.col)) =
+    c.shifts-is_shifted.ensures ∙ ap (λ cell. shifts pen.form (text_of cell)) (sym x) in
+    let test = c.loop-is_shifted-test.true in
+    let still : l.is_shifted ≡ false = grind (arith, test) in
     let order = l.invariant.order in
     record {
       leads =
           λ before. leads_then (buffered_text before c.args.buffer.now) (buffered_text before l.buffer)
           (buffered_text before c.push.new.self)
           (cells_from pen.row pen.col pen c.args.flag.now xs ys)
-          (cells_from pen.row l.col (pen_in pen.form pen.row l.col pen.attrs) l.on xs ys)
-          (cells_from pen.row next (pen_in pen.form pen.row next pen.attrs) on xs ys) (l.invariant.leads before)
-          (alike_leads pen.form pen.row l.col n pen.attrs l.on on like own others xs ys before l.buffer c.push.new.self alike
+          (cells_from pen.row l.col (record (pen_in pen.form pen.row l.col pen.attrs) { is_shifted = l.is_shifted })
+          l.on xs ys)
+          (cells_from pen.row next (record (pen_in pen.form pen.row next pen.attrs) { is_shifted = shifted }) on xs ys)
+          (l.invariant.leads before)
+          (subst (λ (b : Bool). Leads (buffered_text before c.push.new.self)
+          (cells_from pen.row next (record (pen_in pen.form pen.row next pen.attrs) { is_shifted = b }) on xs ys)
+          (buffered_text before l.buffer)
+          (cells_from pen.row l.col (record (pen_in pen.form pen.row l.col pen.attrs) { is_shifted = l.is_shifted })
+          l.on xs ys))
+          (sym after)
+          (subst (λ (b : Bool). Leads (buffered_text before c.push.new.self)
+          (cells_from pen.row next (pen_past pen.form pen.row next pen.attrs (text_of (at own l.col))) on xs ys)
+          (buffered_text before l.buffer)
+          (cells_from pen.row l.col (record (pen_in pen.form pen.row l.col pen.attrs) { is_shifted = b }) l.on xs ys))
+          (sym still)
+          (alike_leads pen.form pen.row l.col n pen.attrs l.on on like own others xs ys before l.buffer c.push.new.self
+          alike
           text c.requires.attrs c.own_cells-own.ensures.first c.own_cells-own.ensures.inside
           c.own_cells-others.ensures.first c.own_cells-others.ensures.blank c.requires.range.inside
-          c.columns-count.ensures pushed flags);
+          c.columns-count.ensures pushed flags)));
       order = omega (arith, order);
       inside =
           alike_inside l.col n like own others xs ys alike c.own_cells-own.ensures.first

@@ -5,15 +5,17 @@ use Rattle.vt_redraw.specs.Script.{pen_in}
 use Rattle.vt_redraw.proofs.cells.gather_more.Given as goal
 
 -- The loop invariant: after the buffered glyphs, the output of the remaining cells leads to the whole output.
-abbrev pub invariant-loop-own : goal.invariant-loop-own
-invariant-loop-own l = record {
+abbrev pub invariant-loop-is_shifted : goal.invariant-loop-is_shifted
+invariant-loop-is_shifted l = record {
   leads : (text : List ℕ) → Leads (buffered_text text l.buffer)
-      (cells_from l.pen.row l.col (pen_in l.pen.form l.pen.row l.col l.pen.attrs) l.on l.cells.cells l.over.cells)
+      (cells_from l.pen.row l.col (record (pen_in l.pen.form l.pen.row l.col l.pen.attrs) {
+        is_shifted = l.is_shifted;
+      }) l.on l.cells.cells l.over.cells)
       (buffered_text text l.fn.buffer)
       (cells_from l.pen.row l.pen.col l.pen l.flag l.cells.cells l.over.cells);
   order : l.pen.col ≤ l.col;
   inside : l.col ≤ length l.over.cells;
 }
 
-abbrev pub decreases-loop-own : goal.decreases-loop-own
-decreases-loop-own l = length l.over.cells - l.col
+abbrev pub decreases-loop-is_shifted : goal.decreases-loop-is_shifted
+decreases-loop-is_shifted l = length l.over.cells - l.col

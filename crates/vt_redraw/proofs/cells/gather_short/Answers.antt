@@ -4,8 +4,8 @@ use Rattle.vt_cells.specs.BufferInternals.{buffered_text}
 use Rattle.vt_cells.specs.Cell.{attrs_of, is_wide, text_of}
 use Rattle.vt_cells.specs.Glyph.{glyph_columns}
 use Rattle.vt_cells.specs.Op.{Print, bytes_of_all}
-use Rattle.vt_redraw.specs.Script.{pen_in, placed_op, wrapped_after_glyph}
-use Rattle.vt_redraw.proofs.Alike.{alike_settles, narrow_keeps}
+use Rattle.vt_redraw.specs.Script.{pen_in, pen_past, placed_op, wrapped_after_glyph}
+use Rattle.vt_redraw.proofs.Alike.{alike_settles, narrow_keeps, short_past}
 use Rattle.vt_redraw.proofs.CellSteps.{glyph_leads}
 use Rattle.vt_redraw.proofs.Refusals.{buffer_some, start_some}
 use Rattle.vt_redraw.proofs.cells.gather_short.Goals as goal
@@ -27,7 +27,7 @@ returns-in_err-gather_byte g c =
           on_err c.from_residual.result
           (buffer_some c.args.buffer.now bytes _
           (start_some bytes _ _
-          (glyph_leads row col n c.args.pen.now (pen_in c.args.pen.now.form row (col + n) (attrs_of x))
+          (glyph_leads row col n c.args.pen.now (pen_past c.args.pen.now.form row (col + n) (attrs_of x) (text_of x))
           c.args.flag (wrapped_after_glyph c.args.flag (is_wide x) (drop (col + n) ys)) c.args.cells.now.cells ys x []
           bytes c.requires.cell c.requires.other.inside c.requires.other.range.inside c.requires.other.other
           c.requires.glyph refl refl refl refl))
@@ -60,7 +60,11 @@ returns g c =
           (buffered_text (text c.gather_byte.new.sink) c.gather_byte.new.buffer) c.requires.cell
           c.requires.other.inside c.requires.other.range.inside c.requires.other.other
           c.requires.glyph count c.in_ok-gather_byte.ensures.gathers.text
-          (pens ∙ ap (λ k. pen_in c.args.pen.now.form row (col + k) (attrs_of x)) count) flags)
+          (pens
+          ∙ (ap (λ k. pen_in c.args.pen.now.form row (col + k) (attrs_of x)) count
+          ∙ sym (short_past c.args.pen.now.form row (col + glyph_columns (is_wide x)) (attrs_of x) (text_of x)
+          c.requires.one)))
+          flags)
           (c.gather_alike.ensures.leads (text c.gather_byte.new.sink)) (ap (λ p. p.row) pens) columns order;
       nonempty = omega (arith, columns, order);
       inside = omega (arith, columns, order, inside);

@@ -1,6 +1,6 @@
 use Rattle.std.proofs.Common.{◌∙◌, ap, rules, sym, append-nil}
 use Rattle.vt_cells.proofs.Same.{attrs_of-same}
-use Rattle.vt_redraw.specs.Script.{pen_in}
+use Rattle.vt_redraw.specs.Script.{pen_with}
 use Rattle.vt_redraw.proofs.Writing.{change_none}
 use Rattle.vt_redraw.proofs.pen.Pen.change_attrs.Goals as goal
 
@@ -14,5 +14,5 @@ returns-then-is_same-clause-ops g c = record {
 
 pub returns-then-is_same-clause-pen : goal.returns-then-is_same-clause-pen
 returns-then-is_same-clause-pen g c =
-    ap (λ attrs. pen_in c.args.self.now.form c.args.self.now.row c.args.self.now.col attrs)
+    ap (λ attrs. pen_with c.args.self.now attrs)
     (attrs_of-same _ _ (sym c.is_same.ensures ∙ c.if-is_same.true))
