@@ -26,11 +26,11 @@ use Rattle.vt_screen.proofs.Shown.{plain_shown, shown_colored, shown_is}
 
 -- ---- operations
 
-redraw_valid : (form : Form) (self : ScreenValue) → IsScreen self → IsColored self →
+pub redraw_valid : (form : Form) (self : ScreenValue) → IsScreen self → IsColored self →
     AllByRecursion Fits (redraw_in form (display self))
 redraw_valid form self is colored = redraw_fits_in form (display self) (shown_is self is) (shown_colored self is colored)
 
-difference_valid : (form : Form) (self prev : ScreenValue) → IsScreen self → IsColored self → IsScreen prev →
+pub difference_valid : (form : Form) (self prev : ScreenValue) → IsScreen self → IsColored self → IsScreen prev →
     IsColored prev → AllByRecursion Fits (difference_in form (display self) (display prev))
 difference_valid form self prev is colored other colored_other =
     difference_fits_in form (display self) (display prev) (shown_is self is) (shown_colored self is colored)

@@ -86,4 +86,5 @@ pub mod ShortMovesRead
 pub mod OrRedraw
 pub mod PortableSgr
 pub mod PortableReads
+pub mod PortableOutputs
 pub mod PortableExamples

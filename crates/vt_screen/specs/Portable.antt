@@ -13,7 +13,8 @@ use Rattle.vt_scan.specs.Run.{run}
 use Rattle.vt_screen.specs.CallsOfRun.{screen_after_all}
 use Rattle.vt_screen.specs.Controls.{number_at, number_or, seen_of, sgr_steps, steps_of}
 use Rattle.vt_screen.specs.Screen.{ScreenValue, canvas_of}
-use Rattle.vt_screen.specs.Shown.{IsReader, IsReaderOf}
+use Rattle.vt_redraw.specs.Steady.{IsSteady}
+use Rattle.vt_screen.specs.Shown.{IsReader, IsReaderOf, display}
 use Rattle.vt_screen.specs.Steps.{Step, Render}
 use Rattle.vt_screen.specs.declared.sgr.Setting.TheVariants.{Reset, Strength}
 
@@ -107,3 +108,11 @@ IsPortable self prev text =
 abbrev pub IsPortableRedraw : Picture → List ℕ → Type 0
 IsPortableRedraw self text =
     (reader : ScreenValue) (doubts : Doubts) → IsReader self reader → PortableEvents (run start text).events doubts reader
+
+-- If the picture of `new` is steady, the output is portable on terminals that display the picture of `was`.
+abbrev pub IsPortableFrom : (was new : ScreenValue) → List ℕ → Type 0
+IsPortableFrom was new text = IsSteady (display new) → IsPortable (display new) (display was) text
+
+-- If the picture of the screen is steady, the output is portable, whatever terminals display and differ in before.
+abbrev pub IsPortableAnywhere : ScreenValue → List ℕ → Type 0
+IsPortableAnywhere screen text = IsSteady (display screen) → IsPortableRedraw (display screen) text

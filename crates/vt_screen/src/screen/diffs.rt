@@ -9,9 +9,11 @@ ghost use Rattle.vt_screen.specs.Diffs.{IsDiffWith, KeepsScreensPlain, MayRepeat
 ghost use Rattle.vt_screen.specs.Diffs.{diff_controls, finals_with, form_with, may_move};
 ghost use Rattle.vt_redraw.specs.declared.form.Form.TheVariants.{Fixed, Portable};
 ghost use Rattle.vt_screen.specs.MadeOf.{IsMadeOf};
+ghost use Rattle.vt_screen.specs.Portable.{IsPortableFrom};
 ghost use Rattle.vt_screen.specs.RepeatInternals.{KeepsPieces};
 ghost use Rattle.vt_screen.specs.Shown.{IsSameIfEmpty, RedrawsFrom, display, display_change, display_change_in, shown_text};
 ghost use Rattle.vt_screen.specs.TextResults.{IfText};
+ghost use Rattle.vt_screen.specs.declared.repeat.Repeat.TheVariants.{Never};
 
 use crate::diff_options::DiffOptions;
 use crate::repeat::Repeat;
@@ -33,7 +35,9 @@ impl Screen {
     /// output is that of `contents_diff` or, with `scroll`, of `contents_diff_scrolling`.
     ///
     /// With `portable`, the output avoids sequences on whose effects terminals disagree, as that of
-    /// [`Screen::contents_formatted_with`] does, and moves no rows or columns.
+    /// [`Screen::contents_formatted_with`] does, and moves no rows or columns. If this screen is
+    /// steady and `repeat` is `Repeat::Never`, terminals that display `prev` agree on the effect of
+    /// each sequence of the output (clause `portable`).
     ///
     /// The output contains only controls that draw and, if `repeat` allows any character, REP
     /// (clause `controls`).
@@ -75,6 +79,8 @@ impl Screen {
             (λ text. length text ≤ length (display_change_in (form_with options) prev.now self.now)) }
         ensures redraw { IsTrue (may_move options) → IfText result (λ text. length text ≤ length (shown_text self.now)) }
         ensures redraws { IfText result (RedrawsFrom prev.now self.now) }
+        ensures portable { IfText result (λ text.
+            IsTrue options.portable → options.repeat ≡ Never → IsPortableFrom prev.now self.now text) }
         ensures empty { IfText result (IsSameIfEmpty prev.now self.now) }
         ensures none { IfText result (λ text. display self.now ≡ display prev.now → text ≡ []) }
         ensures memory { OnlyOutOfMemory result }
@@ -94,6 +100,7 @@ impl Screen {
     fn plain_diff(&self, prev: &Screen, options: DiffOptions) -> Result<String, Error>
         requires { SameSize self.now.page prev.now.page }
         ensures text { IfText result (IsPlainDiff (form_with options) (may_move options) prev.now self.now) }
+        ensures portable { IfText result (λ text. IsTrue options.portable → IsPortableFrom prev.now self.now text) }
         ensures memory { OnlyOutOfMemory result }
         ensures nonempty { RefusedOnlyIfSome result (display_change_in (form_with options) prev.now self.now) }
     {
@@ -111,6 +118,7 @@ impl Screen {
     fn portable_diff(&self, prev: &Screen) -> Result<String, Error>
         requires { SameSize self.now.page prev.now.page }
         ensures text { IfText result (IsPlainDiff Portable false prev.now self.now) }
+        ensures portable { IfText result (IsPortableFrom prev.now self.now) }
         ensures memory { OnlyOutOfMemory result }
         ensures nonempty { RefusedOnlyIfSome result (display_change_in Portable prev.now self.now) }
     {

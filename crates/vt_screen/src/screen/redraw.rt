@@ -23,6 +23,7 @@ ghost use Rattle.vt_redraw.specs.Steady.{IsSteady};
 ghost use Rattle.vt_screen.specs.Again.{KeepsPlain, MakesPlain};
 ghost use Rattle.vt_screen.specs.AnyRegion.{IsReaderInAnyRegion, KeepsRestButRegion, reset_text};
 ghost use Rattle.vt_screen.specs.MadeOf.{IsMadeOf, drawing_controls, drawing_finals, reset_controls};
+ghost use Rattle.vt_screen.specs.Portable.{IsPortableAnywhere};
 ghost use Rattle.vt_screen.specs.Screen.{IsColored, IsScreen, ScreenValue, above_page, page_alone};
 ghost use Rattle.vt_screen.specs.Touched.{TouchesNear, TouchesOnly};
 ghost use Rattle.vt_screen.specs.Shown.{IsReader, IsReaderOfRows, IsSameIfEmpty, KeepsRest, Redraws, RedrawsFrom};
@@ -182,14 +183,16 @@ impl Screen {
     ///
     /// With `portable`, the output avoids sequences on whose effects terminals disagree: attributes
     /// change from bold to dim, or back, only after a reset; a cursor on the last column is moved
-    /// only to an absolute position; and a wide glyph is erased as a whole. Without it, the output
-    /// is that of `contents_formatted`.
+    /// only to an absolute position; a wide glyph is erased as a whole; and after a glyph on whose
+    /// width terminals may disagree, the cursor is moved to an absolute position. Without it, the
+    /// output is that of `contents_formatted`.
     ///
     /// If this screen is steady, a plain terminal of its size that has read the output is plain and
-    /// displays this screen (clause `redraws`). Steady screens of the same size with different
-    /// displays have different output (clause `same`). Even if the screen is not steady, the output
-    /// contains only controls that draw (clause `controls`), and a plain terminal that has read it
-    /// is plain again (clause `again`).
+    /// displays this screen (clause `redraws`). With `portable`, terminals agree on the effect of
+    /// each sequence of the output, whatever they differ in before (clause `portable`). Steady
+    /// screens of the same size with different displays have different output (clause `same`). Even
+    /// if the screen is not steady, the output contains only controls that draw (clause `controls`),
+    /// and a plain terminal that has read it is plain again (clause `again`).
     ///
     /// # Errors
     ///
@@ -208,6 +211,7 @@ impl Screen {
         ensures controls { IfText result (IsMadeOf drawing_finals drawing_controls) }
         ensures again { IfText result KeepsPlain }
         ensures redraws { IfText result (Redraws (display self.now) (IsReader (display self.now)) KeepsRest) }
+        ensures portable { IfText result (λ text. IsTrue options.portable → IsPortableAnywhere self.now text) }
         ensures same { IfText result (λ text. (other : ScreenValue) → IsScreen other → IsColored other →
             SamePictureSize (display self.now) (display other) → IsSteady (display self.now) → IsSteady (display other) →
             text ≡ shown_text_in (form_of options.portable) other → display self.now ≡ display other) }

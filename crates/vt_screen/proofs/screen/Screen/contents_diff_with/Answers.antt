@@ -1,7 +1,9 @@
-use Rattle.std.proofs.Common.{string_bytes}
+use Rattle.std.proofs.Common.{◌≡◌, string_bytes, subst, sym}
 use Rattle.vt_screen.specs.Shown.{display}
 use Rattle.vt_screen.proofs.ContentTexts.{none_refused}
-use Rattle.vt_screen.specs.Diffs.{form_with, may_move}
+use Rattle.vt_screen.specs.Diffs.{MayRepeat, form_with, may_move}
+use Rattle.vt_screen.specs.Portable.{IsPortableFrom}
+use Rattle.vt_screen.specs.declared.repeat.Repeat.{Repeat}
 use Rattle.vt_screen.proofs.Forms.{difference_none_in}
 use Rattle.vt_screen.proofs.RepeatedDiffs.{diff_again, diff_empty, diff_made, diff_none, diff_redraw, diff_redraws, diff_rows}
 use Rattle.vt_screen.proofs.screen.Screen.contents_diff_with.Goals as goal
@@ -54,3 +56,11 @@ pub returns-clause-controls : goal.returns-clause-controls
 returns-clause-controls c =
     diff_made c.args.options.repeat (form_with c.args.options) (may_move c.args.options) c.args.prev.now c.args.self.now (string_bytes c.in_ok-plain.plain)
     (string_bytes c.in_ok-text.text) c.in_ok-plain.ensures.text c.in_ok-text.ensures.text c.in_ok-text.ensures.pieces
+
+pub returns-clause-portable : goal.returns-clause-portable
+returns-clause-portable c portable never =
+    let plain = string_bytes c.in_ok-plain.plain in
+    let text = string_bytes c.in_ok-text.text in
+    let same : text ≡ plain =
+    subst (λ (repeat : Repeat). MayRepeat repeat c.args.prev.now plain text) never c.in_ok-text.ensures.text in
+    subst (IsPortableFrom c.args.prev.now c.args.self.now) (sym same) (c.in_ok-plain.ensures.portable portable)

@@ -1,8 +1,11 @@
-use Rattle.std.proofs.Common.{◌≡◌, ℕ, List, ◌++◌, string_bytes, ap, sym, ◌∙◌, subst}
+use Rattle.std.proofs.Common.{◌≡◌, ℕ, Bool, List, ◌++◌, string_bytes, ap, sym, ◌∙◌, subst}
 use Rattle.vt_redraw.specs.declared.form.Form.{Form}
+use Rattle.vt_redraw.specs.declared.form.Form.TheVariants.{Portable}
 use Rattle.vt_screen.specs.Again.{KeepsPlain}
 use Rattle.vt_screen.specs.MadeOf.{IsMadeOf, drawing_finals, drawing_controls}
 use Rattle.vt_screen.specs.Shown.{form_of, shown_text_in}
+use Rattle.vt_screen.specs.Portable.{IsPortableAnywhere}
+use Rattle.vt_screen.proofs.PortableOutputs.{redraw_is_portable}
 use Rattle.vt_screen.proofs.Forms.{redraw_keeps_in, redraw_made_in, redraw_redraws_in, redraws_tell_in}
 use Rattle.vt_screen.proofs.screen.Screen.contents_formatted_with.Goals as goal
 
@@ -48,3 +51,13 @@ returns-in-Ok-clause-again c =
     ∙ ap (λ (f : Form). string_bytes c.new-text.result ++ shown_text_in f c.args.self.now) c.form_of.ensures
     ∙ ap (λ (before : List ℕ). before ++ bytes) c.new-text.ensures.bytes in
     subst KeepsPlain (sym told) (redraw_keeps_in form c.args.self.now c.in-Ok.ensures.whole c.in-Ok.ensures.colored)
+
+pub returns-in-Ok-clause-portable : goal.returns-in-Ok-clause-portable
+returns-in-Ok-clause-portable c portable =
+    let self = c.args.self.now in
+    let told : string_bytes c.write_contents_formatted_in.new.sink ≡ shown_text_in Portable self =
+    c.in-Ok.ensures.text
+    ∙ ap (λ (f : Form). string_bytes c.new-text.result ++ shown_text_in f self) c.form_of.ensures
+    ∙ (ap (λ (before : List ℕ). before ++ shown_text_in (form_of c.args.options.portable) self) c.new-text.ensures.bytes
+    ∙ ap (λ (b : Bool). shown_text_in (form_of b) self) portable) in
+    subst (IsPortableAnywhere self) (sym told) (redraw_is_portable self c.in-Ok.ensures.whole c.in-Ok.ensures.colored)

@@ -5,7 +5,9 @@ use Rattle.vt_screen.specs.MadeOf.{IsMadeOf, drawing_finals, drawing_controls}
 use Rattle.vt_screen.specs.Shown.{display, display_change_in}
 use Rattle.vt_screen.proofs.Forms.{difference_keeps_in, difference_made_in, difference_none_in, difference_redraws_in}
 use Rattle.vt_screen.proofs.Forms.{difference_tells_in}
+use Rattle.vt_screen.proofs.PortableOutputs.{difference_is_portable}
 use Rattle.vt_screen.proofs.Viewing.{same_shown}
+use Rattle.vt_screen.specs.Portable.{IsPortableFrom}
 use Rattle.vt_screen.proofs.screen.Screen.portable_diff.Goals as goal
 
 pub returns-in-Ok-clause-text : goal.returns-in-Ok-clause-text
@@ -32,3 +34,15 @@ returns-in-Ok-clause-text c =
           written.other_colored size (sym told ∙ empty);
       none = λ same. told ∙ difference_none_in Portable (display self) (display prev) same;
     }
+
+pub returns-in-Ok-clause-portable : goal.returns-in-Ok-clause-portable
+returns-in-Ok-clause-portable c =
+    let self = c.args.self.now in
+    let prev = c.args.prev.now in
+    let written = c.in-Ok.ensures in
+    let bytes = display_change_in Portable prev self in
+    let text = string_bytes c.write_contents_diff_in.new.sink in
+    let told : text ≡ bytes = written.text ∙ ap (λ (before : List ℕ). before ++ bytes) c.new-text.ensures.bytes in
+    subst (IsPortableFrom prev self) (sym told)
+    (difference_is_portable self prev written.whole written.colored written.other written.other_colored
+    (same_shown self prev c.requires))
