@@ -107,7 +107,7 @@ fn counts_rows_of_the_main_page_alone(rt: HostRuntime) -> Result<(), Fail> {
 }
 
 #[rattlefmt::skip]
-const SHOWN: [((u16, u16), usize, &str, &str); 51] = [
+const SHOWN: [((u16, u16), usize, &str, &str); 54] = [
     // Rows that scroll off are kept, and rows beyond the capacity are reported.
     ((2, 4), 10, "a\r\nb\r\nc", "0:b 1:c @1,1 kept 1\n"),
     ((2, 4), 1, "a\r\nb\r\nc\r\nd", "0:c 1:d @1,1 kept 1\nscroll 61 0\n"),
@@ -121,6 +121,21 @@ const SHOWN: [((u16, u16), usize, &str, &str); 51] = [
         "\x1b[31ma\x1b[m\x1b[Cb\r\n",
         "@0,0\nscroll 1b5b33316d61201b5b6d62 0\n",
     ),
+
+    // Rows are deleted and inserted, and the page scrolls down, after the whole page has scrolled up.
+    (
+        (3, 2),
+        0,
+        "a\r\nb\r\nc\r\nd\r\ne\r\nf\r\ng\r\nh\r\ni\x1b[2;1H\x1b[M",
+        "0:g 1:i @1,0\nscroll 61 0\nscroll 62 0\nscroll 63 0\nscroll 64 0\nscroll 65 0\nscroll 66 0\n",
+    ),
+    (
+        (3, 2),
+        0,
+        "a\r\nb\r\nc\r\nd\x1b[2;1H\x1b[L\x1b[3;1H\n",
+        "1:c @2,0\nscroll 61 0\nscroll 62 0\n",
+    ),
+    ((3, 2), 0, "a\r\nb\r\nc\r\nd\x1b[H\x1bM", "1:b 2:c @0,0\nscroll 61 0\n"),
 
     // Rows that are dropped inside the page are neither kept nor reported.
     ((3, 2), 10, "a\r\nb\r\nc\x1b[2;3r\x1b[3;1H\n", "0:a 1:c @2,0\n"),

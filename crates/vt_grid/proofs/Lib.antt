@@ -1,3 +1,4 @@
+pub mod Windows
 pub mod Flats
 pub mod Packing
 pub mod Bounds

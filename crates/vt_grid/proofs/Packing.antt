@@ -5,7 +5,7 @@ use Rattle.std.specs.Prelude.{if◌then◌else◌}
 use Rattle.std.proofs.lemmas.Bool.{cases_lt, cases_eq}
 use Rattle.std.proofs.lemmas.Bool.Decides.{nat_tests}
 use Rattle.std.proofs.lemmas.List.{length-take, length-set, ext_get_or, get_or-take, get_or-drop}
-use Rattle.std.proofs.lemmas.List.{get_or_default, get_or-set_same, get_or-set_other}
+use Rattle.std.proofs.lemmas.List.{get_or-set_same, get_or-set_other}
 use Rattle.std.proofs.lemmas.List.FromFn.{map-range_with_len_more}
 use Rattle.std.specs.List.{CopiedTo, SameBelow, SameFrom}
 use Rattle.vt_cells.specs.Cell.{CellValue, default_blank}
@@ -199,29 +199,26 @@ pub record HasTraded (row other : ℕ) (lines now : List Line) : Type 0 where
   pub freed : line_at now other ≡ line_at lines row
   pub rest : (k : ℕ) → k ≢ row → k ≢ other → line_at now k ≡ line_at lines k
 
-pub traded : (row other : ℕ) (lines : List Line) (own freed was : Line) → row < length lines →
-    other < length lines → row ≢ other → own ≡ get_or lines row own → freed ≡ get_or lines other freed →
-    was ≡ get_or lines row was →
-    HasTraded row other lines
-    (set (set lines row (record { place = freed.place; used = was.used; wrapped = was.wrapped })) other
-    own)
-traded row other lines own freed was h i apart e f g =
-    let here : Line = record { place = freed.place; used = was.used; wrapped = was.wrapped } in
-    let there = own in
-    let half = set lines row here in
-    let l : length half ≡ length lines = length-set lines row here in
-    let free = f ∙ get_or_default lines other freed no_line i in
-    let mine = g ∙ get_or_default lines row was no_line h in
+pub traded : (row other : ℕ) (lines half now : List Line) (own freed : Line) → row < length lines →
+    other < length lines → row ≢ other → own ≡ line_at lines row → freed ≡ line_at lines other →
+    half ≡ set lines row (record own { place = freed.place }) → now ≡ set half other own → HasTraded row other lines now
+traded row other lines half now own freed h i apart e f p q =
+    let here : Line = record own { place = freed.place } in
+    let l : length half ≡ length lines = ap length p ∙ length-set lines row here in
     record {
-      len = length-set half other there ∙ l;
+      len = ap length q ∙ (length-set half other own ∙ l);
       moved =
-          get_or-set_other half other row there no_line apart
-          ∙ (get_or-set_same lines row here no_line h
-          ∙ (λ z. record { place = (free z).place; used = (mine z).used; wrapped = (mine z).wrapped }));
+          ap (λ (xs : List Line). line_at xs row) q
+          ∙ (get_or-set_other half other row own no_line apart
+          ∙ (ap (λ (xs : List Line). line_at xs row) p
+          ∙ (get_or-set_same lines row here no_line h ∙ (λ z. record (e z) { place = (f z).place }))));
       freed =
-          get_or-set_same half other there no_line (omega (arith, l, i))
-          ∙ (e ∙ get_or_default lines row own no_line h);
-      rest = λ k a b. get_or-set_other half other k there no_line b ∙ get_or-set_other lines row k here no_line a;
+          ap (λ (xs : List Line). line_at xs other) q
+          ∙ (get_or-set_same half other own no_line (omega (arith, l, i)) ∙ e);
+      rest =
+          λ k a b. ap (λ (xs : List Line). line_at xs k) q
+          ∙ (get_or-set_other half other k own no_line b
+          ∙ (ap (λ (xs : List Line). line_at xs k) p ∙ get_or-set_other lines row k here no_line a));
     }
 
 places_traded : (row other : ℕ) (lines now : List Line) → HasTraded row other lines now → (k : ℕ) →

@@ -78,4 +78,4 @@ lines_from first n = map (λ place. record { place = place; used = 0; wrapped = 
 -- The cell vector and the table have capacity for `rows` rows.
 pub record HasRoom (rows : ℕ) (flat : Flat) : Type 0 where
   pub cells : rows * flat.columns.stored ≤ vec_capacity flat.cells
-  pub lines : rows ≤ vec_capacity flat.lines
+  pub lines : rows ≤ flat.lines.capacity

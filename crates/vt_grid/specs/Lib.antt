@@ -15,4 +15,5 @@ pub mod Internals
 pub mod PageRows
 pub mod Texts
 pub mod WideTexts
+pub mod Lines
 pub mod Flat

@@ -10,14 +10,15 @@ ghost use Rattle.vt_rows.specs.Cells.{blanks};
 ghost use Rattle.vt_rows.specs.Internals.{rotation_source};
 ghost use Rattle.vt_grid.specs.Flat.{line_at, used_columns};
 
+mod lines;
 mod resizing;
 
+use crate::flat::lines::Lines;
 use crate::size::Size;
 use std::alloc::Global;
 use vt_cells::{Attrs, Cell, Error};
 use vt_rows::cells;
 use vt_rows::copies::{blank_cells, copied};
-use vt_rows::shifts::turn;
 
 /// The value of [`Line`]'s field `used` that marks all columns of the row as used. Smaller values
 /// count groups of eight columns.
@@ -53,7 +54,7 @@ pub struct Columns {
 #[derive(Debug, Drop)]
 pub struct Flat {
     pub(crate) cells: Vec<Cell>,
-    pub(crate) lines: Vec<Line>,
+    pub(crate) lines: Lines,
     pub(crate) columns: Columns,
 }
 
@@ -76,7 +77,7 @@ impl Flat {
         let cells = blank_cells(alloc, usize::from(size.rows) * usize::from(size.cols))?;
         Ok(Flat {
             cells,
-            lines: Flat::lines_in_order(alloc, size.rows)?,
+            lines: Lines::new(Flat::lines_in_order(alloc, size.rows)?),
             columns: Columns {
                 shown: size.cols,
                 stored: size.cols,
@@ -96,7 +97,7 @@ impl Flat {
         ensures memory { OnlyOutOfMemory result }
     {
         let cells = copied(alloc, &self.cells)?;
-        let lines = self.lines.to_vec(alloc)?;
+        let lines = self.lines.try_clone(alloc)?;
         Ok(Flat {
             cells,
             lines,
@@ -118,7 +119,7 @@ impl Flat {
         ensures row { slice_range self.now.cells.items result.0 result.1
             ≡ (row_or self.now.columns.shown (rows_of self.now) row).cells }
     {
-        let start = usize::from(self.lines[row].place) * usize::from(self.columns.stored);
+        let start = usize::from(self.lines.get(row).place) * usize::from(self.columns.stored);
         (start, start + usize::from(self.columns.shown))
     }
 
@@ -129,7 +130,7 @@ impl Flat {
         requires { row < length (rows_of self.now) }
         ensures { result ≡ (row_or self.now.columns.shown (rows_of self.now) row).wrapped }
     {
-        self.lines[row].wrapped
+        self.lines.get(row).wrapped
     }
 
     /// Sets the wrapped flag of a row to `wrapped`. The cells are unchanged.
@@ -141,7 +142,9 @@ impl Flat {
         ensures lines { self.new.lines.items
             ≡ slice_set self.old.lines.items row (record (line_at self.old.lines.items row) { wrapped = wrapped }) }
     {
-        self.lines[row].wrapped = wrapped;
+        let mut line = *self.lines.get(row);
+        line.wrapped = wrapped;
+        self.lines.set(row, line);
     }
 
     /// Rotates rows `from..to` upward by `count`, together with their wrapped flags. Only the row
@@ -156,7 +159,7 @@ impl Flat {
         ensures lines { (k : ℕ) →
             line_at self.new.lines.items k ≡ line_at self.old.lines.items (rotation_source from to count k) }
     {
-        turn(&mut self.lines, from, to, count);
+        self.lines.rotate(from, to, count);
     }
 
     /// Fills a row with default blanks and clears its wrapped flag. Writes only the used columns of
@@ -178,7 +181,7 @@ impl Flat {
             (record (line_at self.old.lines.items row) { used = 0; wrapped = false }) }
     {
         let (start, _end) = self.part(row);
-        let used = used_columns(self.lines[row].used, self.columns.shown);
+        let used = used_columns(self.lines.get(row).used, self.columns.shown);
         cells::clear(&mut self.cells[start..start + used], Attrs::new());
         self.set_entry(row, 0, false);
     }
@@ -219,16 +222,19 @@ impl Flat {
             ≡ slice_set self.old.lines.items row
             (record (line_at self.old.lines.items row) { used = used; wrapped = wrapped }) }
     {
-        let place = self.lines[row].place;
-        self.lines[row] = Line {
-            place,
-            used,
-            wrapped,
-        };
+        let place = self.lines.get(row).place;
+        self.lines.set(
+            row,
+            Line {
+                place,
+                used,
+                wrapped,
+            },
+        );
     }
 
     /// Creates a row table with `rows` entries, in which row `k` is in slot `k`, has no used
-    /// columns and is not wrapped.
+    /// columns and is not wrapped. The vector has memory for twice as many entries (see [`Lines`]).
     ///
     /// # Errors
     ///
@@ -237,7 +243,7 @@ impl Flat {
         ensures ok { IfOk result (λ lines. lines.items ≡ in_order rows) }
         ensures memory { OnlyOutOfMemory result }
     {
-        let mut lines = Vec::with_capacity(alloc, usize::from(rows))?;
+        let mut lines = Vec::with_capacity(alloc, 2 * usize::from(rows))?;
         for place in 0..rows {
             lines.push_reserved(Line {
                 place,

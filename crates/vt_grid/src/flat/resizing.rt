@@ -1,6 +1,6 @@
 //! Adding rows to a page and removing rows from it in place.
 
-ghost use Rattle.std.specs.Prelude.{◌≡◌, ◌≢◌, ◌++◌, ◌+◌, ◌-◌, ◌*◌, ◌<◌, ◌≤◌, ℕ, OnOk, false, length, vec_capacity};
+ghost use Rattle.std.specs.Prelude.{◌≡◌, ◌≢◌, ◌++◌, ◌+◌, ◌-◌, ◌*◌, ◌<◌, ◌≤◌, ℕ, OnOk, false, length};
 ghost use Rattle.vt_cells.specs.Attrs.{default_attrs};
 ghost use Rattle.vt_cells.specs.Refusals.{OnlyOutOfMemory};
 ghost use Rattle.vt_rows.specs.Cells.{blanks};
@@ -27,8 +27,7 @@ impl Flat {
         let cells = usize::from(rows) * usize::from(self.columns.stored);
         self.cells
             .reserve_exact(cells.saturating_sub(self.cells.len()))?;
-        self.lines
-            .reserve_exact(usize::from(rows).saturating_sub(self.lines.len()))?;
+        self.lines.reserve(rows)?;
         Ok(())
     }
 
@@ -49,7 +48,7 @@ impl Flat {
         let cells = usize::from(rows) * usize::from(self.columns.stored);
         // There is memory for the blanks.
         let _ = self.cells.resize(cells, cell::default_blank());
-        push_lines(&mut self.lines, rows);
+        self.lines.append(rows);
     }
 
     /// Removes all rows after the first `rows` rows. Of the remaining rows, only those whose slot
@@ -79,7 +78,9 @@ impl Flat {
             line_at self.new.lines.items k ≡ record (line_at self.old.lines.items k) { wrapped = false } }
     {
         for row in 0..self.lines.len() {
-            self.lines[row].wrapped = false;
+            let mut line = *self.lines.get(row);
+            line.wrapped = false;
+            self.lines.set(row, line);
         }
         self.columns.shown = columns;
     }
@@ -99,8 +100,8 @@ impl Flat {
     {
         let mut free = rows;
         for row in 0..rows {
-            if usize::from(self.lines[row].place) >= rows {
-                free = free_row(&self.lines, free, rows);
+            if usize::from(self.lines.get(row).place) >= rows {
+                free = free_row(self.lines.as_slice(), free, rows);
                 self.trade(row, free);
             }
         }
@@ -126,29 +127,15 @@ impl Flat {
             ≡ row_in self.old.columns self.old.cells.items (line_at self.old.lines.items k) }
     {
         let stored = usize::from(self.columns.stored);
-        let line = self.lines[row];
-        let free = self.lines[other].place;
+        let line = *self.lines.get(row);
+        let free = self.lines.get(other).place;
         let start = usize::from(line.place) * stored;
         self.cells
             .copy_within(start..start + stored, usize::from(free) * stored);
-        self.lines[row].place = free;
-        self.lines[other] = line;
-    }
-}
-
-/// Appends entries to the table until it has `rows` entries. The slot of each new entry is its own
-/// index. Memory for the new entries must already be reserved.
-fn push_lines(lines: &mut Vec<Line>, rows: u16)
-    requires room { rows ≤ vec_capacity lines.old }
-    requires more { length lines.old.items ≤ rows }
-    ensures { lines.new.items ≡ lines.old.items ++ lines_from (length lines.old.items) (rows - length lines.old.items) }
-{
-    for place in lines.len() as u16..rows {
-        lines.push_reserved(Line {
-            place,
-            used: 0,
-            wrapped: false,
-        });
+        let mut moved = line;
+        moved.place = free;
+        self.lines.set(row, moved);
+        self.lines.set(other, line);
     }
 }
 

@@ -18,7 +18,7 @@ impl PageRows {
         ensures { cells_without_end result.now ≡ cells_without_end (page_row self.now row).cells }
     {
         let (start, _end) = self.flat.part(row);
-        let used = used_columns(self.flat.lines[row].used, self.flat.columns.shown);
+        let used = used_columns(self.flat.lines.get(row).used, self.flat.columns.shown);
         &self.flat.cells[start..start + used]
     }
 
@@ -29,7 +29,7 @@ impl PageRows {
         requires { row < length self.now.rows }
         ensures { IsBlankFrom (used_columns self.now.width result) (page_row self.now row).cells }
     {
-        self.flat.lines[usize::from(row)].used
+        self.flat.lines.get(usize::from(row)).used
     }
 
     /// Returns the number of used columns of a row. All cells after them are default blanks.

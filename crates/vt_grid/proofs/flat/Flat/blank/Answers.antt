@@ -1,11 +1,11 @@
 use Rattle.std.proofs.Common.{◌≡◌, ◌+◌, ◌-◌, ◌*◌, ◌<◌, ◌≤◌, ◌∙◌, List, length, take, drop, ap, arith}
-use Rattle.std.proofs.lemmas.List.{get_or_default, length-take, length-drop, length-replicate}
+use Rattle.std.proofs.lemmas.List.{length-take, length-drop, length-replicate}
 use borrow.Rule.Slice.PartMut.{put_mid}
 use Rattle.vt_cells.specs.Attrs.{default_attrs}
 use Rattle.vt_cells.specs.Cell.{CellValue, blank, default_blank}
 use Rattle.vt_rows.specs.Cells.{blanks}
 use Rattle.vt_grid.specs.declared.flat.Line.{Line}
-use Rattle.vt_grid.specs.Flat.{cells_at, line_at, no_line, used_columns}
+use Rattle.vt_grid.specs.Flat.{cells_at, line_at, used_columns}
 use Rattle.vt_grid.proofs.Bounds.{blanked_start, used_inside}
 use Rattle.vt_grid.proofs.Flats.{cells_at-put_part, place_inside, rows_counted, written_part}
 use Rattle.vt_grid.proofs.flat.Flat.blank.Goals as goal
@@ -27,7 +27,7 @@ returns-clause-own c =
     let used : c.used_columns-used.result ≡ u =
     c.used_columns-used.ensures
     ∙ ap (λ (x : Line). used_columns v x.used)
-    (c.index.ensures ∙ get_or_default lines c.args.row c.index.result.now no_line found) in
+    c.get.ensures in
     let s = c.part-start.result.0 in
     let k = s + c.used_columns-used.result - s in
     let xs = c.deref_mut.result.now in
@@ -68,7 +68,7 @@ returns-clause-others c =
     let used : c.used_columns-used.result ≡ u =
     c.used_columns-used.ensures
     ∙ ap (λ (x : Line). used_columns v x.used)
-    (c.index.ensures ∙ get_or_default lines c.args.row c.index.result.now no_line found) in
+    c.get.ensures in
     let s = c.part-start.result.0 in
     let k = s + c.used_columns-used.result - s in
     let xs = c.deref_mut.result.now in

@@ -1,8 +1,7 @@
 use Rattle.std.proofs.Common.{List, ◌≡◌, ◌+◌, ◌<◌, ◌≤◌, ◌∙◌, ℕ, length, sym, ap, subst, arith}
-use Rattle.std.proofs.lemmas.List.{get_or_default}
 use Rattle.vt_grid.specs.declared.flat.Flat.{Flat}
 use Rattle.vt_grid.specs.declared.flat.Line.{Line}
-use Rattle.vt_grid.specs.Flat.{line_at, no_line}
+use Rattle.vt_grid.specs.Flat.{line_at}
 use Rattle.vt_grid.proofs.Packing.{PackedTo, packed_none, packed_same, packed_traded}
 use Rattle.vt_grid.proofs.flat.Flat.pack.Goals as goal
 use Rattle.vt_grid.proofs.flat.Flat.pack.Goals.{then-from-rows, else-from-rows}
@@ -16,8 +15,8 @@ free_row-free-requires-clause-nonempty c =
     let lines = at.self.lines.items in
     let inside : at.row < length lines = omega (arith, c.loop-row-test.true, at.invariant.state.len, c.requires.inside) in
     let place : c.from.result ≡ (line_at lines at.row).place =
-    c.from.ensures ∙ ap (λ (x : Line). x.place) (c.index.ensures ∙ get_or_default lines at.row _ no_line inside) in
-    let same = c.deref.ensures.value in (
+    c.from.ensures ∙ ap (λ (x : Line). x.place) c.get.ensures in
+    let same = c.as_slice.ensures in (
       at.row,
       c.loop-row-test.true,
       omega (arith, inside, ap length same),
@@ -31,11 +30,11 @@ loop-row-preserved c =
     let lines = at.self.lines.items in
     let inside : at.row < length lines = omega (arith, c.loop-row-test.true, at.invariant.state.len, c.requires.inside) in
     let place : c.from.result ≡ (line_at lines at.row).place =
-    c.from.ensures ∙ ap (λ (x : Line). x.place) (c.index.ensures ∙ get_or_default lines at.row _ no_line inside) in
+    c.from.ensures ∙ ap (λ (x : Line). x.place) c.get.ensures in
     record {
       state = elim c.if-from-rows.branch [
         | then-from-rows w ↦
-            let same = w.deref.ensures.value in
+            let same = w.as_slice.ensures in
             let free = w.free_row-free in
             subst (λ (x : Flat × ℕ). PackedTo c.args.rows (at.row + 1) x.1 c.args.self.now x.0)
             (λ z. (sym w.self-is z, sym w.free-is z))

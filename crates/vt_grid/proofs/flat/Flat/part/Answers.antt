@@ -1,10 +1,9 @@
 use Rattle.std.proofs.Common.{◌≡◌, ◌+◌, ◌*◌, ◌<◌, ◌∙◌, length, refl, sym, ap, arith}
 use Rattle.std.specs.List.{slice_range}
-use Rattle.std.proofs.lemmas.List.{get_or_default}
 use Rattle.vt_cells.specs.Attrs.{default_attrs}
 use Rattle.vt_rows.specs.Row.{RowValue, blank_row}
 use Rattle.vt_grid.specs.declared.flat.Line.{Line}
-use Rattle.vt_grid.specs.Flat.{line_at, no_line}
+use Rattle.vt_grid.specs.Flat.{line_at}
 use Rattle.vt_grid.proofs.Flats.{rows_counted, place_inside, place_start, row_found}
 use Rattle.vt_grid.proofs.flat.Flat.part.Goals as goal
 
@@ -17,7 +16,7 @@ returns-clause-inside c =
     let p = (line_at lines c.args.row).place in
     let fits = place_inside p (length lines) flat.columns.stored (c.requires.flat.table.inside c.args.row found) in
     let place : c.from.result ≡ p =
-    c.from.ensures ∙ ap (λ (x : Line). x.place) (c.index.ensures ∙ get_or_default lines c.args.row _ no_line found) in
+    c.from.ensures ∙ ap (λ (x : Line). x.place) c.get.ensures in
     let start : c.from.result * c.from-2.result ≡ p * flat.columns.stored = λ z. place z * c.from-2.ensures z in
     omega (arith, start, c.from-3.ensures, fits, c.requires.flat.fits, c.requires.flat.table.filled)
 
@@ -31,7 +30,7 @@ returns-clause-row c =
     let p = (line_at lines c.args.row).place in
     let row = row_found w c.args.row cells lines (blank_row default_attrs w.shown) found in
     let place : c.from.result ≡ p =
-    c.from.ensures ∙ ap (λ (x : Line). x.place) (c.index.ensures ∙ get_or_default lines c.args.row _ no_line found) in
+    c.from.ensures ∙ ap (λ (x : Line). x.place) c.get.ensures in
     let s = c.from.result * c.from-2.result in
     let start : s ≡ p * w.stored = λ z. place z * c.from-2.ensures z in
     (λ z. slice_range cells s (s + c.from-3.ensures z))

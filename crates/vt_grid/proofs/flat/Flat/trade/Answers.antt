@@ -1,8 +1,7 @@
 use Rattle.std.proofs.Common.{◌≡◌, ◌+◌, ◌*◌, ◌-◌, ◌≤◌, ◌∙◌, ℕ, length, vec_len, refl, sym, ap, subst, arith}
 use Rattle.std.specs.List.{CopiedTo, SameBelow, SameFrom}
-use Rattle.std.proofs.lemmas.List.{get_or_default}
 use Rattle.vt_grid.specs.declared.flat.Line.{Line}
-use Rattle.vt_grid.specs.Flat.{line_at, no_line}
+use Rattle.vt_grid.specs.Flat.{line_at}
 use Rattle.vt_grid.proofs.Flats.{place_inside}
 use Rattle.vt_grid.proofs.Packing.{IsStored-traded, rows_in-traded, traded}
 use Rattle.vt_grid.proofs.flat.Flat.trade.Goals as goal
@@ -13,7 +12,7 @@ copy_within-requires-clause-in_bounds c =
     let lines = flat.lines.items in
     let place : c.from.result ≡ (line_at lines c.args.row).place =
     c.from.ensures
-    ∙ ap (λ (x : Line). x.place) (c.index-line.ensures ∙ get_or_default lines c.args.row _ no_line c.requires.row) in
+    ∙ ap (λ (x : Line). x.place) c.get-line.ensures in
     let fits = place_inside c.from.result (length lines) flat.columns.stored
     (omega (arith, place, c.requires.flat.table.inside c.args.row c.requires.row)) in
     subst (λ (w : ℕ). c.from.result * w + w ≤ vec_len flat.cells) (sym c.from-stored.ensures)
@@ -25,7 +24,7 @@ copy_within-requires-clause-dest_in_bounds c =
     let lines = flat.lines.items in
     let place : c.from-2.result ≡ (line_at lines c.args.other).place =
     c.from-2.ensures
-    ∙ ap (λ (x : Line). x.place) (c.index.ensures ∙ get_or_default lines c.args.other _ no_line c.requires.other) in
+    ∙ ap (λ (x : Line). x.place) c.get.ensures in
     let fits = place_inside c.from-2.result (length lines) flat.columns.stored
     (omega (arith, place, c.requires.flat.table.inside c.args.other c.requires.other)) in
     subst (λ (w : ℕ). c.from-2.result * w + (c.from.result * w + w - c.from.result * w) ≤ vec_len flat.cells)
@@ -37,17 +36,17 @@ returns-clause-flat c =
     let lines = flat.lines.items in
     let cells = flat.cells.items in
     let after = c.copy_within.new.self.items in
-    let table = traded c.args.row c.args.other lines c.index-line.result.now c.index.result.now
-    c.index_mut.result.now c.requires.row c.requires.other c.requires.apart
-    c.index-line.ensures c.index.ensures c.index_mut.ensures.value in
+    let table = traded c.args.row c.args.other lines c.set.new.self.items c.set-2.new.self.items
+    c.get-line.result.now c.get.result.now c.requires.row c.requires.other c.requires.apart
+    c.get-line.ensures c.get.ensures c.set.ensures c.set-2.ensures in
     let size : length after ≡ length cells =
     sym c.copy_within.new.self.ok.0 ∙ (c.copy_within.ensures.len ∙ flat.cells.ok.0) in
     let place : c.from.result ≡ (line_at lines c.args.row).place =
     c.from.ensures
-    ∙ ap (λ (x : Line). x.place) (c.index-line.ensures ∙ get_or_default lines c.args.row _ no_line c.requires.row) in
+    ∙ ap (λ (x : Line). x.place) c.get-line.ensures in
     let free : c.from-2.result ≡ (line_at lines c.args.other).place =
     c.from-2.ensures
-    ∙ ap (λ (x : Line). x.place) (c.index.ensures ∙ get_or_default lines c.args.other _ no_line c.requires.other) in
+    ∙ ap (λ (x : Line). x.place) c.get.ensures in
     let w = c.from-stored.result in
     let start : c.from.result * w ≡ (line_at lines c.args.row).place * flat.columns.stored =
     λ z. place z * c.from-stored.ensures z in
@@ -67,17 +66,17 @@ returns-clause-rows c =
     let lines = flat.lines.items in
     let cells = flat.cells.items in
     let after = c.copy_within.new.self.items in
-    let table = traded c.args.row c.args.other lines c.index-line.result.now c.index.result.now
-    c.index_mut.result.now c.requires.row c.requires.other c.requires.apart
-    c.index-line.ensures c.index.ensures c.index_mut.ensures.value in
+    let table = traded c.args.row c.args.other lines c.set.new.self.items c.set-2.new.self.items
+    c.get-line.result.now c.get.result.now c.requires.row c.requires.other c.requires.apart
+    c.get-line.ensures c.get.ensures c.set.ensures c.set-2.ensures in
     let size : length after ≡ length cells =
     sym c.copy_within.new.self.ok.0 ∙ (c.copy_within.ensures.len ∙ flat.cells.ok.0) in
     let place : c.from.result ≡ (line_at lines c.args.row).place =
     c.from.ensures
-    ∙ ap (λ (x : Line). x.place) (c.index-line.ensures ∙ get_or_default lines c.args.row _ no_line c.requires.row) in
+    ∙ ap (λ (x : Line). x.place) c.get-line.ensures in
     let free : c.from-2.result ≡ (line_at lines c.args.other).place =
     c.from-2.ensures
-    ∙ ap (λ (x : Line). x.place) (c.index.ensures ∙ get_or_default lines c.args.other _ no_line c.requires.other) in
+    ∙ ap (λ (x : Line). x.place) c.get.ensures in
     let w = c.from-stored.result in
     let start : c.from.result * w ≡ (line_at lines c.args.row).place * flat.columns.stored =
     λ z. place z * c.from-stored.ensures z in

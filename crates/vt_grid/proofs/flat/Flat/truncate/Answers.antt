@@ -13,7 +13,7 @@ returns-clause-flat c =
     let cells : c.truncate-2.new.self.items ≡ take (c.args.rows * packed.columns.stored) packed.cells.items =
     c.truncate-2.ensures.items ∙ ap (λ (w : ℕ). take (c.args.rows * w) packed.cells.items) c.from.ensures in
     subst (λ (x : List CellValue × List Line). IsStored packed.columns x.0 x.1)
-    (λ z. (sym cells z, sym c.truncate.ensures.items z))
+    (λ z. (sym cells z, sym c.truncate.ensures z))
     (IsStored-cut packed.columns c.args.rows packed.cells.items packed.lines.items rows
     c.pack.ensures.packed c.pack.ensures.flat)
 
@@ -25,7 +25,7 @@ returns-clause-rows c =
     let cells : c.truncate-2.new.self.items ≡ take (c.args.rows * packed.columns.stored) packed.cells.items =
     c.truncate-2.ensures.items ∙ ap (λ (w : ℕ). take (c.args.rows * w) packed.cells.items) c.from.ensures in
     λ k h.
-    (λ z. row_in old.columns (cells z) (line_at (c.truncate.ensures.items z) k))
+    (λ z. row_in old.columns (cells z) (line_at (c.truncate.ensures z) k))
     ∙ (subst (λ (w : Columns). row_in w (take (c.args.rows * packed.columns.stored) packed.cells.items)
     (line_at (take c.args.rows packed.lines.items) k) ≡ row_in w packed.cells.items (line_at packed.lines.items k))
     c.pack.ensures.columns

@@ -1,8 +1,6 @@
 use Rattle.std.proofs.Common.{◌<◌, length, sym, ap, arith}
-use Rattle.std.proofs.lemmas.List.{get_or_default}
 use Rattle.vt_cells.specs.Attrs.{default_attrs}
 use Rattle.vt_rows.specs.Row.{RowValue, blank_row}
-use Rattle.vt_grid.specs.Flat.{no_line}
 use Rattle.vt_grid.proofs.Flats.{rows_counted, row_found}
 use Rattle.vt_grid.proofs.flat.Flat.wrapped.Goals as goal
 
@@ -12,4 +10,4 @@ returns c =
     let lines = flat.lines.items in
     let found : c.args.row < length lines = omega (arith, c.requires, rows_counted flat.columns flat.cells.items lines) in
     let row = row_found flat.columns c.args.row flat.cells.items lines (blank_row default_attrs flat.columns.shown) found in
-    rw (c.index.ensures, get_or_default lines c.args.row _ no_line found) (sym (ap (λ (r : RowValue). r.wrapped) row))
+    rw c.get.ensures (sym (ap (λ (r : RowValue). r.wrapped) row))

@@ -1,17 +1,16 @@
 use Rattle.std.proofs.Common.{◌≡◌, ◌<◌, ◌∙◌, List, length, sym, ap, arith}
-use Rattle.std.proofs.lemmas.List.{get_or_default}
 use Rattle.vt_cells.specs.Attrs.{default_attrs}
 use Rattle.vt_cells.specs.Cell.{CellValue}
 use Rattle.vt_rows.specs.Cells.{at}
 use Rattle.vt_rows.specs.Row.{RowValue, blank_row}
-use Rattle.vt_grid.specs.Flat.{line_at, no_line, used_columns}
+use Rattle.vt_grid.specs.Flat.{line_at, used_columns}
 use Rattle.vt_grid.specs.PageRows.{PageRowsValue, page_row}
 use Rattle.vt_grid.proofs.Bounds.{row_blank_from}
 use Rattle.vt_grid.proofs.Flats.{row_found, rows_counted}
 use Rattle.vt_grid.proofs.page_rows.PageRows.groups.Goals as goal
 
-pub index-requires : goal.index-requires
-index-requires c =
+pub get-requires : goal.get-requires
+get-requires c =
     let flat = c.self.inside.flat in
     omega (
       arith,
@@ -34,11 +33,8 @@ returns c =
     ) in
     let row = row_found flat.columns r flat.cells.items lines (blank_row default_attrs flat.columns.shown) inside in
     let cells = sym (ap (λ (x : RowValue). x.cells) row) ∙ (λ z. (page_row (c.self.view_is z) r).cells) in
-    let here : c.from.result < length lines = omega (arith, inside, c.from.ensures) in
-    let line : c.index.result.now ≡ line_at lines r =
-    c.index.ensures
-    ∙ (get_or_default lines c.from.result c.index.result.now no_line here ∙ ap (line_at lines) c.from.ensures) in
-    let used : used_columns c.args.self.now.width c.index.result.now.used ≡ used_columns flat.columns.shown (line_at lines r).used =
+    let line : c.get.result.now ≡ line_at lines r = c.get.ensures ∙ ap (line_at lines) c.from.ensures in
+    let used : used_columns c.args.self.now.width c.get.result.now.used ≡ used_columns flat.columns.shown (line_at lines r).used =
     (λ z. used_columns (sym c.self.view_is z).width (line z).used) in
     λ k h.
     ap (λ (xs : List CellValue). at xs k) (sym cells)

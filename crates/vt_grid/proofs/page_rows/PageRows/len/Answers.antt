@@ -7,6 +7,5 @@ pub returns : goal.returns
 returns c =
     let flat = c.self.inside.flat in
     c.len.ensures
-    ∙ (flat.lines.ok.0
     ∙ (sym (rows_counted flat.columns flat.cells.items flat.lines.items)
-    ∙ ap (λ (s : PageRowsValue). length s.rows) c.self.view_is))
+    ∙ ap (λ (s : PageRowsValue). length s.rows) c.self.view_is)

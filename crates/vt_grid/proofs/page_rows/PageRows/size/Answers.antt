@@ -8,15 +8,13 @@ overflow_cast-result c =
     let flat = c.self.inside.flat in
     let all : c.len.result ≡ length c.args.self.now.rows =
     c.len.ensures
-    ∙ (flat.lines.ok.0
     ∙ (sym (rows_counted flat.columns flat.cells.items flat.lines.items)
-    ∙ ap (λ (s : PageRowsValue). length s.rows) c.self.view_is)) in
+    ∙ ap (λ (s : PageRowsValue). length s.rows) c.self.view_is) in
     omega (arith, all, c.requires)
 
 pub returns-clause-rows : goal.returns-clause-rows
 returns-clause-rows c =
     let flat = c.self.inside.flat in
     c.len.ensures
-    ∙ (flat.lines.ok.0
     ∙ (sym (rows_counted flat.columns flat.cells.items flat.lines.items)
-    ∙ ap (λ (s : PageRowsValue). length s.rows) c.self.view_is))
+    ∙ ap (λ (s : PageRowsValue). length s.rows) c.self.view_is)

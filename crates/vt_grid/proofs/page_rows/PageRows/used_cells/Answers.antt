@@ -1,9 +1,9 @@
 use Rattle.std.proofs.Common.{◌≡◌, ◌<◌, ◌≤◌, ◌∙◌, length, sym, ap, arith}
-use Rattle.std.proofs.lemmas.List.{get_or_default, take-take}
+use Rattle.std.proofs.lemmas.List.{take-take}
 use Rattle.vt_cells.specs.Attrs.{default_attrs}
 use Rattle.vt_rows.specs.Row.{RowValue, blank_row, cells_without_end}
 use Rattle.vt_grid.specs.declared.flat.Line.{Line}
-use Rattle.vt_grid.specs.Flat.{cells_at, line_at, no_line, row_in, used_columns}
+use Rattle.vt_grid.specs.Flat.{cells_at, line_at, row_in, used_columns}
 use Rattle.vt_grid.specs.PageRows.{PageRowsValue, page_row}
 use Rattle.vt_grid.proofs.Bounds.{row_blank_from, used_inside, used_without_end}
 use Rattle.vt_grid.proofs.Flats.{place_start, row_found, rows_counted}
@@ -29,7 +29,7 @@ returns c =
     let used : u ≡ used_columns w.shown line.used =
     c.used_columns-used.ensures
     ∙ ap (λ (x : Line). used_columns w.shown x.used)
-    (c.index.ensures ∙ get_or_default lines r c.index.result.now no_line inside) in
+    c.get.ensures in
     let few : u ≤ w.shown = omega (arith, used, used_inside w.shown line.used) in
     let start = place_start w.stored u line.place c.part-start.result.0 flat.cells.items c.deref.result.now
     c.deref.ensures.value c.part-start.ensures.start (omega (arith, few, c.self.invariant.fits))

@@ -4,7 +4,7 @@ use Rattle.std.proofs.lemmas.List.FromFn.{length-map-range_with_len}
 use Rattle.vt_grid.specs.declared.flat.Line.{Line}
 use Rattle.vt_grid.specs.Flat.{lines_from}
 use Rattle.vt_grid.proofs.Packing.{lines_from_more}
-use Rattle.vt_grid.proofs.flat.resizing.push_lines.Goals as goal
+use Rattle.vt_grid.proofs.flat.lines.push_lines.Goals as goal
 
 pub push_reserved-requires : goal.push_reserved-requires
 push_reserved-requires c =

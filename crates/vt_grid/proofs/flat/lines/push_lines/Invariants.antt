@@ -1,7 +1,7 @@
 use Rattle.std.proofs.Common.{◌≡◌, ◌-◌, ◌≤◌, ◌++◌, length}
 use Rattle.std.specs.Vec.{vec_capacity}
 use Rattle.vt_grid.specs.Flat.{lines_from}
-use Rattle.vt_grid.proofs.flat.resizing.push_lines.Given as goal
+use Rattle.vt_grid.proofs.flat.lines.push_lines.Given as goal
 
 abbrev pub invariant-loop-place : goal.invariant-loop-place
 invariant-loop-place l = record {
