@@ -6,7 +6,7 @@
 //! the ASCII glyphs that the terminal already displays there, if their attributes and the current
 //! attributes are the defaults. Nothing else in the output changes.
 
-ghost use Rattle.std.specs.Prelude.{◌≡◌, ◌+◌, ◌++◌, ◌-◌, ◌<◌, ◌≤◌, IfOk, IfSome, OnOk, Some, length, ℕ, min, string_bytes};
+ghost use Rattle.std.specs.Prelude.{◌≡◌, ◌+◌, ◌++◌, ◌-◌, ◌<◌, ◌≤◌, IfOk, IfSome, IsTrue, OnOk, Some, length, ℕ, min, string_bytes};
 ghost use Rattle.vt_cells.specs.Cell.{CellValue};
 ghost use Rattle.vt_cells.specs.Glyph.{columns_of};
 ghost use Rattle.vt_cells.specs.Refusals.{OnlyOutOfMemory};
@@ -313,11 +313,24 @@ fn is_first_column(at: Option<Pos>) -> bool {
 fn after_other(from: Pos, c: char, size: Size) -> Option<Pos>
     ensures { IfSome result (λ to. (n : ℕ) × (columns_of c ≡ Some n) × (0 < n) × IsAfter size.cols from n to) }
 {
+    if is_box_drawing(c) {
+        return after_characters(from, 1, size);
+    }
     match columns(c) {
         Some(1) => after_characters(from, 1, size),
         Some(2) => after_characters(from, 2, size),
         _ => None,
     }
+}
+
+/// Returns whether `c` is a box drawing character or a block element. These take one column, so the
+/// width table need not be searched for the most frequent characters that are not ASCII.
+#[inline(always)]
+#[tactic(auto, using(vt_scan::proofs::NarrowBlocks::blocks_narrow))]
+fn is_box_drawing(c: char) -> bool
+    ensures { IsTrue result → columns_of c ≡ Some 1 }
+{
+    matches!(c as u32, 0x2500..=0x259F)
 }
 
 /// Returns the position `count` columns to the right of `from`, or `None` if it is past the last
