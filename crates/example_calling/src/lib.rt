@@ -2,6 +2,7 @@
 #![tactic(auto)]
 
 pub mod callbacks;
+pub mod cohort;
 pub mod mirror;
 pub mod multiplexer;
 pub mod recorder;

@@ -5,6 +5,8 @@
 #[cfg(test)]
 mod caller_tests;
 #[cfg(test)]
+mod cohort_tests;
+#[cfg(test)]
 mod mirror_tests;
 #[cfg(test)]
 mod numbers;
