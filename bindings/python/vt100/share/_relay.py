@@ -11,7 +11,7 @@ from . import _stream as stream
 from ._cohort import Cohort
 from ._history import MAX_ROWS, Rows
 from ._redis import READ_COUNT, Delays, Loss, Redis, stop
-from ._share import Audience
+from ._share import GAP, Audience
 
 #: The size of the screen before there is one in the stream.
 _ROWS, _COLS = 24, 80
@@ -74,6 +74,10 @@ class Relay(Audience):
     while Redis or the server is out of reach, and while entries are missing: until the next
     keyframe. With a token, what viewers type is sent to the server.
     """
+
+    #: Half of the time between two rounds of the server: a relay that waited as long as the server
+    #: would often wait for nothing, since updates do not arrive at equal times.
+    gap = GAP / 2
 
     def __init__(
         self, redis: Redis, name: str, report: Callable[[str], None], token: Optional[str] = None

@@ -58,12 +58,15 @@ class Audience:
     """A screen and its viewers. Derived classes say where the screen comes from.
 
     The screen becomes visible in rounds: the first one begins at once, and the next one no sooner
-    than `GAP` seconds later. A round makes the present screen a version, and sends each viewer what
+    than `gap` seconds later. A round makes the present screen a version, and sends each viewer what
     leads to it, except to those that have no room for more: they get it when they have.
     """
 
     #: What the screen comes from, in messages to the user.
     what = "the program"
+
+    #: The shortest time between two rounds, in seconds.
+    gap = GAP
 
     def __init__(self, cohort: Cohort) -> None:
         self.ended = asyncio.Event()
@@ -254,7 +257,7 @@ class Audience:
             self._must_repeat = True
         elif not self._is_scheduled:
             self._is_scheduled = True
-            self._loop.call_later(max(0.0, self._last + GAP - self._loop.time()), self._begin)
+            self._loop.call_later(max(0.0, self._last + self.gap - self._loop.time()), self._begin)
 
     def _begin(self) -> None:
         self._is_scheduled = self._must_repeat = False
