@@ -59,8 +59,8 @@ class Redis:
         self.errors = (exceptions.RedisError, OSError, EOFError, asyncio.TimeoutError)
 
     async def check(self, *names: str) -> None:
-        """Raises one of `errors` unless the server can be reached, and each name is free or a stream
-        that may be read."""
+        """Raises one of `errors` unless the server can be reached, and each name is free or that of
+        a stream that may be read."""
         await self.client.xread({name: "0-0" for name in names}, count=1)
 
     async def read(self, places: Dict[str, bytes], can_wait: bool = True) -> Dict[str, Entries]:
