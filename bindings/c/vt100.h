@@ -531,8 +531,9 @@ vt100_status vt100_contents_diff_scrolling(vt100_handle *handle, vt100_handle *p
 /*
  * Generates a diff with options, which is never longer than that of vt100_contents_diff or, with
  * VT100_PORTABLE, than its portable form. Without VT100_DIFF_REPEAT and VT100_DIFF_REPEAT_ASCII, it
- * is the diff of vt100_contents_diff or, with VT100_DIFF_SCROLL, of vt100_contents_diff_scrolling; a
- * portable diff moves no rows or columns.
+ * is the diff of vt100_contents_diff or, with VT100_DIFF_SCROLL, of vt100_contents_diff_scrolling. A
+ * portable diff moves no rows or columns: with VT100_DIFF_SCROLL, it only moves the cursor with
+ * shorter sequences, but not with HT.
  * Statuses: as for vt100_contents_diff.
  */
 vt100_status vt100_contents_diff_with(vt100_handle *handle, vt100_handle *prev, uint8_t options,

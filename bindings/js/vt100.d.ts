@@ -187,7 +187,8 @@ export interface RedrawOptions {
   portable?: boolean;
 }
 
-/** Updates of a mirror ignore `portable`, and a portable diff moves no rows or columns. */
+/** Updates of a mirror ignore `portable`. A portable diff moves no rows or columns: with `scroll`, it only moves the
+    cursor with shorter sequences. */
 export interface DiffOptions extends RedrawOptions {
   /** Whether a diff may begin by moving rows or columns. */
   scroll?: boolean;

@@ -350,9 +350,9 @@ class Screen(HasState):
     ) -> str:
         """Returns a diff with options, which is never longer than that of `contents_diff` or, with
         `portable`, than its portable form (see `contents_formatted`). With `scroll`, it may begin
-        by moving rows or columns, unless it is portable. Runs within a row of the one-column
-        characters that `repeat` allows may be written with REP (ECMA-48, 8.3.103); some terminals
-        ignore REP."""
+        by moving rows or columns, and moves the cursor with shorter sequences; a portable diff moves
+        no rows or columns. Runs within a row of the one-column characters that `repeat` allows may
+        be written with REP (ECMA-48, 8.3.103); some terminals ignore REP."""
         options = diff_options(scroll, repeat, portable)
         return self._diff(library.vt100_contents_diff_with, prev, options)
 

@@ -8,6 +8,13 @@ use test_input::readback::Asked::Portable;
 use test_input::readback::Change;
 use vt100::{DiffOptions, Repeat};
 
+/// Portable diffs with short cursor movements.
+const SHORT: DiffOptions = DiffOptions {
+    scroll: true,
+    repeat: Repeat::Never,
+    portable: true,
+};
+
 /// Portable diffs without REP.
 const PORTABLE: DiffOptions = DiffOptions {
     scroll: false,
@@ -94,6 +101,35 @@ const CHANGED: [Example; 7] = [
 fn portable_diffs_use_no_state_in_which_terminals_disagree(rt: HostRuntime) -> Result<(), Fail> {
     for example in &CHANGED {
         expect_at_each_cut(rt.alloc(), Change::With(PORTABLE), example)?;
+    }
+    Ok(())
+}
+
+#[rattlefmt::skip]
+const SHORTENED: [Example; 8] = [
+    // BS, CR and LF are shorter than CUP.
+    ((2, 5), 0, &[Text("abc\r\ndef")], &[Text("abc\r\ndef\x1b[2;2H")], "\x08\x08"),
+    ((2, 5), 0, &[Text("abc")], &[Text("abc\x1b[H")], "\r"),
+    ((2, 5), 0, &[Text("abc")], &[Text("abc\x1b[2;4H")], "\n"),
+
+    // HT would be shorter than CUF, but tab stops may be cleared.
+    ((1, 20), 0, &[], &[Text("\x1b[17Gx")], "\x1b[16Cx"),
+
+    // While a wrap is pending, the cursor moves only to an absolute position.
+    ((2, 3), 0, &[Text("abc")], &[Text("abc\x1b[1;2H")], "\x1b[1;2H"),
+
+    // Terminals agree on the width of U+00E9, but not on that of U+0915, a letter of an Indic script.
+    ((1, 9), 0, &[], &[Text("\u{e9}\x1b[H")], "\u{e9}\r"),
+    ((1, 9), 0, &[], &[Text("\u{915}\x1b[H")], "\u{915}\x1b[H"),
+
+    // Rows are not moved.
+    ((2, 3), 0, &[Text("a\r\nb")], &[Text("a\r\nb\n")], "\x1b[Hb\r\n\x1b[K\x1b[C"),
+];
+
+#[test]
+fn portable_diffs_move_the_cursor_with_short_sequences(rt: HostRuntime) -> Result<(), Fail> {
+    for example in &SHORTENED {
+        expect_at_each_cut(rt.alloc(), Change::With(SHORT), example)?;
     }
     Ok(())
 }

@@ -38,7 +38,7 @@ const NEITHER: DiffOptions = DiffOptions {
 const FOUR: &str = "aaaaaaaaa\r\nbbbbbbbbb\r\nccccccccc\r\nddddddddd";
 
 #[rattlefmt::skip]
-const REPEATED: [Example; 20] = [
+const REPEATED: [Example; 22] = [
     // The character, and nine repetitions.
     ((2, 20), 0, &[], &[Text("----------")], "-\x1b[9b"),
 
@@ -79,8 +79,11 @@ const REPEATED: [Example; 20] = [
     ((2, 20), 0, &[], &[Text("\u{4e2d}\u{4e2d}\u{4e2d}\u{4e2d}")],
         "\u{4e2d}\u{4e2d}\u{4e2d}\u{4e2d}"),
 
-    // A combining character is added to the last character of a run, and is not repeated.
-    ((2, 20), 0, &[], &[Text("xxxxxxx\u{301}")], "x\x1b[6b\u{301}"),
+    // A combining character is added to the last character of a run, which is not repeated, since
+    // terminals differ in whether a combining character joins a repeated character.
+    ((2, 20), 0, &[], &[Text("xxxxxxx\u{301}")], "x\x1b[5bx\u{301}"),
+    ((2, 20), 0, &[], &[Text("xxxxxx\u{301}")], "xxxxxx\u{301}"),
+    ((2, 20), 0, &[], &[Text("xxxxxxx\u{e9}")], "x\x1b[6b\u{e9}"),
     ((2, 20), 0, &[], &[Text("x\u{301}xxxxxxx")], "x\u{301}x\x1b[6b"),
 ];
 

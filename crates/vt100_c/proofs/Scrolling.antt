@@ -47,7 +47,7 @@ scrolls screen prev answer (Err status) draws controls again shorter redraw redr
 pub with_options : (options : DiffOptions) (screen prev : ScreenValue) (answer : Result (String Global) Error)
     (made : Result (String Global) ℕ)
     → IfText answer (IsDiffWith options prev screen)
-    → IfText answer (IsMadeOf (finals_with options.repeat (may_move options)) (diff_controls (may_move options)))
+    → IfText answer (IsMadeOf (finals_with options.repeat options.scroll) (diff_controls options.scroll))
     → IfText answer (RepeatsOnlyInRows prev screen)
     → IfText answer KeepsScreensPlain
     → IfText answer (λ text. length text ≤ length (display_change_in (form_with options) prev screen))
@@ -59,7 +59,7 @@ pub with_options : (options : DiffOptions) (screen prev : ScreenValue) (answer :
     → IfOk made (λ text. IsDiffWithOptions options screen prev (string_bytes text))
 with_options options screen prev answer (Ok text) draws controls rows again shorter redraw redraws empty none is = record {
   draws = carried (IsDiffWith options prev screen) answer text draws is;
-  controls = carried (IsMadeOf (finals_with options.repeat (may_move options)) (diff_controls (may_move options)))
+  controls = carried (IsMadeOf (finals_with options.repeat options.scroll) (diff_controls options.scroll))
       answer text controls is;
   rows = carried (RepeatsOnlyInRows prev screen) answer text rows is;
   again = carried KeepsScreensPlain answer text again is;

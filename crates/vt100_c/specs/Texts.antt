@@ -87,7 +87,7 @@ redraw_options_of bits = record { portable = bits / 8 % 2 == 1 }
 -- display, and if `screen` is steady, only then.
 pub record IsDiffWithOptions (options : DiffOptions) (screen prev : ScreenValue) (text : List ℕ) : Type 0 where
   pub draws : IsDiffWith options prev screen text
-  pub controls : IsMadeOf (finals_with options.repeat (may_move options)) (diff_controls (may_move options)) text
+  pub controls : IsMadeOf (finals_with options.repeat options.scroll) (diff_controls options.scroll) text
   pub rows : RepeatsOnlyInRows prev screen text
   pub again : KeepsScreensPlain text
   pub shorter : length text ≤ length (display_change_in (form_with options) prev screen)

@@ -50,8 +50,7 @@ unchanged_scrolling self is colored steady =
       is = inl (record {
         plain = [];
         moving = inl (inl drawn.is);
-        same = λ reader is_reader. refl;
-        shorter = omega arith;
+        short = record { same = λ reader is_reader. refl; shorter = omega arith };
       });
       controls = made_nothing shortened_finals shortened_controls;
       shorter = omega arith;

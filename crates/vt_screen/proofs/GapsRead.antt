@@ -144,7 +144,7 @@ gap_read (suc n) screen p plain inside ((b, is, here), gap) =
           ∙ ap (λ (k : ℕ). Some (terminal start (record screen { page = record screen.page { column = k }; last = last }))) far,
     )
 
-skip_read : (n : ℕ) (screen : ScreenValue) → 0 < n → n < 2 ^ 16 → screen.page.column + n < screen.page.width →
+pub skip_read : (n : ℕ) (screen : ScreenValue) → 0 < n → n < 2 ^ 16 → screen.page.column + n < screen.page.width →
     ReadsTo (counted n 0x43) screen (moved_on n screen.last screen)
 skip_read n screen some small inside =
     let c : min (screen.page.column + n) (screen.page.width - 1) ≡ screen.page.column + n = omega arith in

@@ -3,6 +3,7 @@
 use Rattle.std.proofs.Common.{◌≡◌, ℕ, zero, suc, ◌+◌, ◌-◌, ◌<◌, ◌≤◌, ◌^◌, Bool, true, List, [], ◌∷◌, ◌++◌}
 use Rattle.std.proofs.Common.{length, Option, Some, None, refl, sym, ap, subst, ◌∙◌, arith, take, length-append, decimal}
 use Rattle.std.specs.Prelude.{IfSome}
+use Rattle.std.specs.List.{AllByRecursion}
 use Rattle.std.proofs.Common.{append-nil, append_assoc}
 use Rattle.std.proofs.Math.Seq.{take-append_seam, take-length}
 use Rattle.vt_cells.specs.Attrs.{default_attrs}
@@ -11,18 +12,23 @@ use Rattle.vt_cells.specs.Op.{counted, csi}
 use Rattle.vt_cells.specs.declared.pos.Pos.{Pos}
 use Rattle.vt_grid.specs.Page.{IsPage, cell_at, cursor_row}
 use Rattle.vt_grid.proofs.Pages.{page_at}
+use Rattle.vt_redraw.specs.Doubts.{Doubts}
 use Rattle.vt_redraw.specs.Fits.{IsDrawnText}
 use Rattle.vt_redraw.specs.Locality.{row_of_picture}
 use Rattle.vt_redraw.specs.Picture.{Picture}
+use Rattle.vt_redraw.specs.declared.form.Form.TheVariants.{Portable}
 use Rattle.vt_rows.specs.Cells.{at}
 use Rattle.vt_scan.specs.Automaton.{start}
+use Rattle.vt_scan.specs.Run.{run}
 use Rattle.vt_screen.specs.Again.{KeepsPlain}
-use Rattle.vt_screen.specs.Gaps.{IsDefaultAfter, IsGap, IsKeptAfter, IsKeptFrom, IsPrinted, ReplacesTracked, StillShows, Tracks}
+use Rattle.vt_screen.specs.Gaps.{IsCertainElement, IsDefaultAfter, IsGap, IsKeptAfter, IsKeptFrom, IsPrinted, ReplacesTracked, StillShows, Tracks}
 use Rattle.vt_screen.specs.Gaps.{AppendsUpTo, IsLetter, IsShownGap, ReplacesWhole, gap_text, is_narrow_glyph, picture_cell}
 use Rattle.vt_screen.specs.MadeOf.{IsMadeOf, shortened_controls, shortened_finals}
+use Rattle.vt_screen.specs.Portable.{ReadsAgreed, doubts_after_output}
 use Rattle.vt_screen.specs.Reading.{Terminal, terminal, terminal_after}
 use Rattle.vt_screen.specs.Screen.{ScreenValue}
-use Rattle.vt_screen.specs.ShortMoves.{IsAt, IsAtPos, IsElement, LeadsTo, Replaces, with_cursor}
+use Rattle.vt_screen.specs.ShortMoves.{IsAgreed, IsAsciiCharacter, IsAsPortable, IsAt, IsAtPos, IsElement, IsNoWorse}
+use Rattle.vt_screen.specs.ShortMoves.{KeepsPortable, LeadsTo, Replaces, with_cursor}
 use Rattle.vt_screen.specs.Shown.{ReadsTo}
 use Rattle.vt_screen.specs.Steps.{OnPage, display_after}
 use Rattle.vt_grid.specs.declared.page_step.PageStep.TheVariants as page
@@ -34,7 +40,12 @@ use Rattle.vt_screen.proofs.CharactersRead.{ascii_text, same_screen, text_tame}
 use Rattle.vt_screen.proofs.ElementsRead.{right_leads, sgr_read}
 use Rattle.vt_screen.proofs.GapsRead.{gap_ascii, gap_length, gap_same, gap_shown}
 use Rattle.vt_screen.proofs.MadeOf.{made_append, made_drawn, made_nothing}
-use Rattle.vt_screen.proofs.Readback.{cleared_read, erased_chars_read, erased_rest_read, hidden_read}
+use Rattle.vt_screen.proofs.PortableElements.{element_agreed, gap_keeps}
+use Rattle.vt_screen.proofs.PortableMoves.{agreed_at, right_target_settles, same_keeps}
+use Rattle.vt_screen.proofs.PortableOrder.{events_kept, no_worse_itself, no_worse_then, output_after, output_split, output_then}
+use Rattle.vt_screen.proofs.QuietSteps.{read_run}
+use Rattle.vt_screen.proofs.ReadbackTexts.{reads_append}
+use Rattle.vt_screen.proofs.Readback.{and_then-some, cleared_read, erased_chars_read, erased_rest_read, hidden_read}
 use Rattle.vt_screen.proofs.Replacing.{ends_then, grounded, keeps_tame, leads_replace, same_then, tame_append, tame_keeps, tame_nothing}
 use Rattle.vt_screen.proofs.Tracked.{Leaves, ascii_leaves, character_leaves, erased_chars_leaves, erased_rest_leaves, glyphs_then}
 
@@ -42,6 +53,34 @@ use Rattle.vt_screen.proofs.Tracked.{Leaves, ascii_leaves, character_leaves, era
 
 same_some : {A : Type 0} (x y : A) → Some x ≡ Some y → x ≡ y
 same_some x y e = cc
+
+-- The second part is portable after the first.
+portable_then : (rows cols : ℕ) (cells : ℕ → ℕ → CellValue) (known middle new : Known) (a b c d : List ℕ) →
+    ReplacesTracked rows cols cells known middle a b → ReplacesTracked rows cols cells middle new c d →
+    known.form ≡ Portable → (screen : ScreenValue) (doubts : Doubts) (t : Terminal) →
+    Tracks rows cols cells known screen → IsAgreed known.at doubts →
+    terminal_after (terminal start screen) (a ++ c) ≡ Some t → ReadsAgreed (a ++ c) doubts screen →
+    IsAsPortable new.at (a ++ c) (b ++ d) doubts screen
+portable_then rows cols cells known middle new a b c d one two p screen doubts t tracked agreed quiet reads =
+    let (u, first, more) = and_then-some (λ v. terminal_after v c) (terminal_after (terminal start screen) a) t
+    (sym (reads_append (terminal start screen) a c) ∙ quiet) in
+    let (ground, there) = one.ends screen u tracked first in
+    let old = read_run a (terminal start screen) u first in
+    let text = read_run b (terminal start screen) u (one.same screen tracked ∙ first) in
+    let parts = output_split a c doubts screen u.screen (old.state ∙ ground) old.steps.becomes reads in
+    let begins = one.portable p screen doubts u tracked agreed first parts.0 in
+    let later = doubts_after_output a doubts screen in
+    let goes = two.portable (one.form ∙ p) u.screen later t there begins.place
+    (subst (λ (s : Terminal). terminal_after s c ≡ Some t) (grounded u ground) more) parts.1 in
+    let rest = events_kept (run start d).events later (doubts_after_output b doubts screen) u.screen begins.after goes.agrees in
+    let after_old = output_after a c doubts screen u.screen (old.state ∙ ground) old.steps.becomes in
+    let after_text = output_after b d doubts screen u.screen (text.state ∙ ground) text.steps.becomes in record {
+      agrees = output_then b d doubts screen u.screen (text.state ∙ ground) text.steps.becomes begins.agrees rest.0;
+      after = subst (λ (was : Doubts). IsNoWorse was (doubts_after_output (b ++ d) doubts screen)) (sym after_old)
+          (subst (IsNoWorse (doubts_after_output c later u.screen)) (sym after_text)
+          (no_worse_then _ (doubts_after_output d later u.screen) _ goes.after rest.1));
+      place = subst (IsAgreed new.at) (sym after_old) goes.place;
+    }
 
 pub stands_then : (rows cols : ℕ) (cells : ℕ → ℕ → CellValue) (known middle new : Known) (a b c d : List ℕ) →
     ReplacesTracked rows cols cells known middle a b → ReplacesTracked rows cols cells middle new c d →
@@ -54,6 +93,9 @@ stands_then rows cols cells known middle new a b c d one two = record {
   keeps = tame_keeps (b ++ d) (tame_append b d (keeps_tame b one.keeps) (keeps_tame d two.keeps));
   made = made_append shortened_finals shortened_controls b d one.made two.made;
   shorter = omega (arith, one.shorter, two.shorter, length-append a c, length-append b d);
+  form = two.form ∙ one.form;
+  portable = λ p screen doubts t tracked agreed quiet reads.
+      portable_then rows cols cells known middle new a b c d one two p screen doubts t tracked agreed quiet reads;
 }
   where
     second : (u : Terminal) → (u.scan ≡ start) × Tracks rows cols cells middle u.screen →
@@ -76,6 +118,9 @@ stands_nothing rows cols cells known = record {
   keeps = tame_keeps [] tame_nothing;
   made = made_nothing shortened_finals shortened_controls;
   shorter = omega arith;
+  form = refl;
+  portable = λ p screen doubts t tracked agreed quiet reads.
+      record { agrees = tt; after = no_worse_itself doubts; place = agreed };
 }
 
 -- Other output of the same effect can stand for output that stands for itself.
@@ -84,17 +129,32 @@ pub stands_instead : (rows cols : ℕ) (cells : ℕ → ℕ → CellValue) (know
     ((screen : ScreenValue) → Tracks rows cols cells known screen →
     terminal_after (terminal start screen) text ≡ terminal_after (terminal start screen) old) →
     KeepsPlain text → IsMadeOf shortened_finals shortened_controls text → length text ≤ length old →
+    ((screen : ScreenValue) (doubts : Doubts) → Tracks rows cols cells known screen → IsAgreed known.at doubts →
+    ReadsAgreed text doubts screen
+    × IsNoWorse (doubts_after_output old doubts screen) (doubts_after_output text doubts screen)) →
     ReplacesTracked rows cols cells known new old text
-stands_instead rows cols cells known new old text stands same keeps made shorter =
-    record { same = same; ends = stands.ends; keeps = keeps; made = made; shorter = shorter }
+stands_instead rows cols cells known new old text stands same keeps made shorter agrees = record {
+  same = same;
+  ends = stands.ends;
+  keeps = keeps;
+  made = made;
+  shorter = shorter;
+  form = stands.form;
+  portable = λ p screen doubts t tracked agreed quiet reads. record {
+    agrees = (agrees screen doubts tracked agreed).0;
+    after = (agrees screen doubts tracked agreed).1;
+    place = (stands.portable p screen doubts t tracked agreed quiet reads).place;
+  };
+}
 
 -- What is known about the cursor gives the position after the output; the rest must be shown.
 pub stands_from : (rows cols : ℕ) (cells : ℕ → ℕ → CellValue) (known new : Known) (old text : List ℕ) →
-    Replaces rows cols known.at new.at old text →
+    Replaces rows cols known.at new.at old text → new.form ≡ known.form →
+    (known.form ≡ Portable → KeepsPortable rows cols known.at new.at old text) →
     ((screen after : ScreenValue) → Tracks rows cols cells known screen → ReadsTo old screen after →
     IfSome new.kept (λ pos. StillShows cells new.is_default pos after)) →
     ReplacesTracked rows cols cells known new old text
-stands_from rows cols cells known new old text r shows = record {
+stands_from rows cols cells known new old text r form keeps shows = record {
   same = λ screen t. r.same screen t.sized t.at;
   ends = λ screen t tracked e. (
     (r.ends screen t tracked.sized tracked.at e).ground,
@@ -108,6 +168,9 @@ stands_from rows cols cells known new old text r shows = record {
   keeps = r.keeps;
   made = r.made;
   shorter = r.shorter;
+  form = form;
+  portable = λ p screen doubts t tracked agreed quiet reads.
+      keeps p screen doubts tracked.sized tracked.at agreed reads;
 }
 
 -- ---- elements that are copied
@@ -215,10 +278,16 @@ shows_after rows cols cells known (elements.Chars n insert) bytes to pos d scree
 pub copied_stands : (rows cols : ℕ) (cells : ℕ → ℕ → CellValue) (known new : Known) (element : Element) (bytes : List ℕ) →
     IsElement element bytes → Replaces rows cols known.at new.at bytes bytes →
     IfSome new.at (IsPrinted cols element known.at bytes) → IfSome new.kept (IsKeptAfter known element new.at) →
-    (new.is_default ≡ true → IsDefaultAfter known.is_default element) →
+    (new.is_default ≡ true → IsDefaultAfter known.is_default element) → new.form ≡ known.form →
+    (known.form ≡ Portable → IfSome new.at (λ to. IsCertainElement element)) →
     ReplacesTracked rows cols cells known new bytes bytes
-copied_stands rows cols cells known new element bytes is r printed kept plain =
-    stands_from rows cols cells known new bytes bytes r
+copied_stands rows cols cells known new element bytes is r printed kept plain form certain =
+    stands_from rows cols cells known new bytes bytes r form
+    (λ p screen doubts sized at agreed reads. record {
+      agrees = reads;
+      after = no_worse_itself (doubts_after_output bytes doubts screen);
+      place = element_agreed rows cols known.at new.at element bytes screen doubts is printed (certain p) sized at agreed;
+    })
     (λ screen after tracked reads.
     if_some (IsKeptAfter known element new.at) (λ pos. StillShows cells new.is_default pos after) new.kept
     (λ pos e k. shows_after rows cols cells known element bytes new.at pos new.is_default screen after is tracked printed k
@@ -229,10 +298,10 @@ copied_stands rows cols cells known new element bytes is r printed kept plain =
 -- A movement that is replaced by a different one keeps the cells and the attributes.
 pub moved_stands : (rows cols : ℕ) (cells : ℕ → ℕ → CellValue) (known : Known) (at : Option Pos) (to : Pos)
     (head text : List ℕ) → LeadsTo rows cols known.at to head → to.row < rows → to.col < cols →
-    Replaces rows cols known.at at head text →
-    ReplacesTracked rows cols cells known (record { at = at; kept = known.kept; is_default = known.is_default }) head text
-moved_stands rows cols cells known at to head text leads low inside r =
-    stands_from rows cols cells known (record { at = at; kept = known.kept; is_default = known.is_default }) head text r
+    Replaces rows cols known.at at head text → (known.form ≡ Portable → KeepsPortable rows cols known.at at head text) →
+    ReplacesTracked rows cols cells known (record known { at = at }) head text
+moved_stands rows cols cells known at to head text leads low inside r keeps =
+    stands_from rows cols cells known (record known { at = at }) head text r refl keeps
     (λ screen after tracked reads.
     if_some (λ pos. StillShows cells known.is_default pos screen) (λ pos. StillShows cells known.is_default pos after)
     known.kept (λ pos e was. shown screen after pos tracked was reads) tracked.kept)
@@ -263,11 +332,7 @@ counted_long (suc (suc n)) final some = omega (arith, csi_length (decimal (suc (
 pub gap_stands : (picture : Picture) (known after : Known) (gap : Gap) (letter : List ℕ) →
     IsShownGap picture known gap → IsLetter letter →
     ReplacesTracked (length picture.rows) picture.width (picture_cell picture)
-    (record {
-      at = Some (record { row = gap.from.row; col = gap.from.col + gap.count });
-      kept = known.kept;
-      is_default = known.is_default;
-    }) after letter letter →
+    (record known { at = Some (record { row = gap.from.row; col = gap.from.col + gap.count }) }) after letter letter →
     ReplacesTracked (length picture.rows) picture.width (picture_cell picture) known after (counted gap.count 0x43 ++ letter)
     (gap_text (row_of_picture picture gap.from.row).cells gap.from.col gap.count ++ letter)
 gap_stands picture known after gap letter is (b, ascii, e) printed =
@@ -283,6 +348,7 @@ gap_stands picture known after gap letter is (b, ascii, e) printed =
       gap_length xs from.col n is.glyphs,
       counted_long n 0x43 is.some,
     ))
+    agrees
   where
     rows : ℕ
     rows = length picture.rows
@@ -309,7 +375,7 @@ gap_stands picture known after gap letter is (b, ascii, e) printed =
     text = gap_text xs gap.from.col gap.count
 
     middle : Known
-    middle = record { at = Some to; kept = known.kept; is_default = known.is_default }
+    middle = record known { at = Some to }
 
     small : n < 2 ^ 16
     small = let few = is.few in omega arith
@@ -324,11 +390,31 @@ gap_stands picture known after gap letter is (b, ascii, e) printed =
     moved =
         moved_stands rows cols cells known (Some to) to (counted n 0x43) (counted n 0x43) leads is.low is.inside
         (leads_replace rows cols known.at to (counted n 0x43) (counted n 0x43) is.inside leads leads (omega arith))
+        (λ p. same_keeps rows cols known.at to (counted n 0x43)
+        (right_target_settles rows cols n known.at from (Some to) (counted n 0x43) is.at (is.some, small, refl)))
+
+    letters : AllByRecursion IsAsciiCharacter (text ++ b ∷ [])
+    letters = gap_ascii xs gap.from.col n (b ∷ []) is.glyphs (ascii, tt)
+
+    agrees : (screen : ScreenValue) (doubts : Doubts) → Tracks rows cols cells known screen → IsAgreed known.at doubts →
+        ReadsAgreed (text ++ letter) doubts screen
+        × IsNoWorse (doubts_after_output (counted n 0x43 ++ letter) doubts screen)
+        (doubts_after_output (text ++ letter) doubts screen)
+    agrees screen doubts tracked agreed =
+        let here = at_of known.at from screen is.at tracked.at in
+        let column = here.column in
+        let wide = tracked.sized.width in
+        let inside = is.inside in
+        subst (λ (l : List ℕ). ReadsAgreed (text ++ l) doubts screen
+        × IsNoWorse (doubts_after_output (counted n 0x43 ++ l) doubts screen) (doubts_after_output (text ++ l) doubts screen))
+        (sym e)
+        (gap_keeps n b text screen doubts is.some small letters ascii (gap_length xs from.col n is.glyphs)
+        (agreed_at known.at from doubts is.at agreed) (omega (arith, column, wide, inside)))
 
     drawn : IsDrawnText (text ++ letter)
     drawn =
         subst (λ (l : List ℕ). IsDrawnText (text ++ l)) (sym e)
-        (ascii_text (text ++ b ∷ []) (gap_ascii xs gap.from.col n (b ∷ []) is.glyphs (ascii, tt)))
+        (ascii_text (text ++ b ∷ []) letters)
 
     same : (screen : ScreenValue) → Tracks rows cols cells known screen →
         terminal_after (terminal start screen) (text ++ letter)

@@ -32,33 +32,33 @@ printed_other cols c known from element (Some to) head at is after =
     subst (λ (e : Element). IsPrinted cols e known head to) (sym is) (from, at, after)
 
 printed_at : (cols : ℕ) (known : Option Pos) (element : Element) (head : List ℕ) (to : Pos) → is_still element ≡ true →
-    IsPrinted cols element known head to
-printed_at cols known elements.Ascii head to still = absurd cc
-printed_at cols known (elements.Other c) head to still = absurd cc
-printed_at cols known (elements.Place pos) head to still = tt
-printed_at cols known (elements.Right n) head to still = tt
-printed_at cols known elements.NextRow head to still = tt
-printed_at cols known elements.EraseRest head to still = tt
-printed_at cols known (elements.EraseChars n) head to still = tt
-printed_at cols known (elements.Lines n insert) head to still = tt
-printed_at cols known (elements.Chars n insert) head to still = tt
-printed_at cols known (elements.Hide hidden) head to still = tt
-printed_at cols known elements.ClearAttrs head to still = tt
-printed_at cols known elements.Attrs head to still = tt
+    known ≡ Some to → IsPrinted cols element known head to
+printed_at cols known elements.Ascii head to still at = absurd cc
+printed_at cols known (elements.Other c) head to still at = absurd cc
+printed_at cols known (elements.Place pos) head to still at = absurd cc
+printed_at cols known (elements.Right n) head to still at = absurd cc
+printed_at cols known elements.NextRow head to still at = absurd cc
+printed_at cols known elements.EraseRest head to still at = at
+printed_at cols known (elements.EraseChars n) head to still at = at
+printed_at cols known (elements.Lines n insert) head to still at = at
+printed_at cols known (elements.Chars n insert) head to still at = at
+printed_at cols known (elements.Hide hidden) head to still at = at
+printed_at cols known elements.ClearAttrs head to still at = at
+printed_at cols known elements.Attrs head to still at = at
 
 pub printed_still : (cols : ℕ) (known : Option Pos) (element : Element) (head : List ℕ) → is_still element ≡ true →
-    (result : Option Pos) → IfSome result (IsPrinted cols element known head)
-printed_still cols known element head still None = tt
-printed_still cols known element head still (Some to) = printed_at cols known element head to still
+    IfSome known (IsPrinted cols element known head)
+printed_still cols None element head still = tt
+printed_still cols (Some to) element head still = printed_at cols (Some to) element head to still refl
 
 pub moved_instead : (rows cols : ℕ) (cells : ℕ → ℕ → CellValue) (known : Known) (at : Option Pos) (to : Pos)
     (head before after : List ℕ) → LeadsTo rows cols known.at to head → to.row < rows → to.col < cols →
-    AppendsReplacement rows cols known.at at head before after →
-    AppendsInstead rows cols cells known (record { at = at; kept = known.kept; is_default = known.is_default }) head before after
+    AppendsReplacement known.form rows cols known.at at head before after →
+    AppendsInstead rows cols cells known (record known { at = at }) head before after
 moved_instead rows cols cells known at to head before after leads low inside appended = record {
   text = appended.text;
   appends = appended.appends;
-  stands = moved_stands rows cols cells known at to head appended.text leads low inside appended.replaces;
+  stands = moved_stands rows cols cells known at to head appended.text leads low inside appended.replaces appended.portable;
 }
 
 -- Movements over a gap, and a character, were replaced by the gap's glyphs and the character.
@@ -66,20 +66,12 @@ pub gap_instead : (picture : Picture) (known after : Known) (gap : Gap) (letter 
     (rows cols : ℕ) → IsShownGap picture known gap → IsLetter letter → row ≡ row_of_picture picture gap.from.row →
     rows ≡ length picture.rows → cols ≡ picture.width →
     ((cells : ℕ → ℕ → CellValue) → ReplacesTracked rows cols cells
-    (record {
-      at = Some (record { row = gap.from.row; col = gap.from.col + gap.count });
-      kept = known.kept;
-      is_default = known.is_default;
-    }) after letter letter) → middle ≡ old ++ gap_text row.cells gap.from.col gap.count → new ≡ middle ++ letter →
+    (record known { at = Some (record { row = gap.from.row; col = gap.from.col + gap.count }) }) after letter letter) → middle ≡ old ++ gap_text row.cells gap.from.col gap.count → new ≡ middle ++ letter →
     AppendsInstead (length picture.rows) picture.width (picture_cell picture) known after
     (counted gap.count 0x43 ++ letter) old new
 gap_instead picture known after gap letter old middle new row rows cols is letter_is same tall wide printed first last =
     let text : List ℕ = gap_text (row_of_picture picture gap.from.row).cells gap.from.col gap.count in
-    let behind : Known = record {
-      at = Some (record { row = gap.from.row; col = gap.from.col + gap.count });
-      kept = known.kept;
-      is_default = known.is_default;
-    } in record {
+    let behind : Known = record known { at = Some (record { row = gap.from.row; col = gap.from.col + gap.count }) } in record {
       text = text ++ letter;
       appends = last
           ∙ (ap (λ (t : List ℕ). t ++ letter)

@@ -84,7 +84,11 @@ pub mod ElementsRead
 pub mod Numbers
 pub mod ShortMovesRead
 pub mod OrRedraw
-pub mod PortableSgr
-pub mod PortableReads
+pub mod PortableElements
 pub mod PortableOutputs
 pub mod PortableExamples
+pub mod PortableMoves
+pub mod PortableOrder
+pub mod PortableReads
+pub mod PortableRepeats
+pub mod PortableSgr

@@ -34,8 +34,8 @@ use Rattle.vt_scan.proofs.Written.{alone, empty_groups, decimal_groups, joined_g
 use Rattle.vt_scan.proofs.Written.{decimal_is_parameter, joined_is_parameter, place_is_parameter}
 use Rattle.vt_screen.specs.CallsOfRun.{screen_after_all, screen_in, steps_of_all}
 use Rattle.vt_screen.specs.Controls.{control_steps, number_or, seen_of, steps_of}
-use Rattle.vt_screen.specs.Portable.{IsPortable, IsPortableRedraw, PortableEvents, control_use, csi_use, escape_use}
-use Rattle.vt_screen.specs.Portable.{has_single_numbers, sgr_use, use_of}
+use Rattle.vt_screen.specs.Portable.{IsPortable, IsPortableRedraw, PortableEvents, control_use, csi_use, doubts_after_all}
+use Rattle.vt_screen.specs.Portable.{escape_use, has_single_numbers, sgr_use, use_of}
 use Rattle.vt_screen.specs.Reading.{terminal}
 use Rattle.vt_screen.specs.Screen.{ScreenValue, canvas_of, with_canvas}
 use Rattle.vt_screen.specs.Shown.{IsReader, IsReaderOf}
@@ -51,14 +51,7 @@ use Rattle.vt_screen.proofs.StepLists.{stepped_then}
 
 -- ---- events in sequence
 
--- The doubts after the events.
-abbrev doubts_after_all : List Event → Doubts → ScreenValue → Doubts
-doubts_after_all [] doubts screen = doubts
-doubts_after_all (event ∷ events) doubts screen =
-    doubts_after_all events (doubts_after (use_of event screen) doubts (canvas_of screen))
-    (screen_after_all (steps_of event (seen_of screen)) screen)
-
-events_portable : (a b : List Event) (doubts : Doubts) (screen : ScreenValue) → PortableEvents a doubts screen →
+pub events_portable : (a b : List Event) (doubts : Doubts) (screen : ScreenValue) → PortableEvents a doubts screen →
     PortableEvents b (doubts_after_all a doubts screen) (screen_after_all (steps_of_all a screen) screen) →
     PortableEvents (a ++ b) doubts screen
 events_portable [] b doubts screen p q = q
@@ -72,7 +65,22 @@ events_portable (event ∷ a) b doubts screen p q =
           (stepped_then steps (steps_of_all a next) screen) q),
     )
 
-doubts_then : (a b : List Event) (doubts : Doubts) (screen : ScreenValue) →
+-- The events of two outputs in sequence.
+pub events_split : (a b : List Event) (doubts : Doubts) (screen : ScreenValue) → PortableEvents (a ++ b) doubts screen →
+    PortableEvents a doubts screen
+    × PortableEvents b (doubts_after_all a doubts screen) (screen_after_all (steps_of_all a screen) screen)
+events_split [] b doubts screen p = (tt, p)
+events_split (event ∷ a) b doubts screen p =
+    let steps = steps_of event (seen_of screen) in
+    let next = screen_after_all steps screen in
+    let later = doubts_after (use_of event screen) doubts (canvas_of screen) in
+    let both = events_split a b later next p.1 in (
+      (p.0, both.0),
+      subst (λ (s : ScreenValue). PortableEvents b (doubts_after_all a later next) s)
+          (sym (stepped_then steps (steps_of_all a next) screen)) both.1,
+    )
+
+pub doubts_then : (a b : List Event) (doubts : Doubts) (screen : ScreenValue) →
     doubts_after_all (a ++ b) doubts screen
     ≡ doubts_after_all b (doubts_after_all a doubts screen) (screen_after_all (steps_of_all a screen) screen)
 doubts_then [] b doubts screen = refl
@@ -88,16 +96,16 @@ doubts_then (event ∷ a) b doubts screen =
 
 -- A terminal in ground state is in that state again after it has read the output. If terminals differ as `doubts` says,
 -- they agree on the effect of each event, and differ as `left` says afterward.
-record ReadsPortably (text : List ℕ) (doubts : Doubts) (screen : ScreenValue) (left : Doubts) : Type 0 where
-  ground : (run start text).state ≡ start
-  events : PortableEvents (run start text).events doubts screen
-  after : doubts_after_all (run start text).events doubts screen ≡ left
+pub record ReadsPortably (text : List ℕ) (doubts : Doubts) (screen : ScreenValue) (left : Doubts) : Type 0 where
+  pub ground : (run start text).state ≡ start
+  pub events : PortableEvents (run start text).events doubts screen
+  pub after : doubts_after_all (run start text).events doubts screen ≡ left
 
-portably_nothing : (doubts : Doubts) (screen : ScreenValue) → ReadsPortably [] doubts screen doubts
+pub portably_nothing : (doubts : Doubts) (screen : ScreenValue) → ReadsPortably [] doubts screen doubts
 portably_nothing doubts screen = record { ground = refl; events = tt; after = refl }
 
 -- The run over two texts, the first of which leaves the ground state.
-run_then : (a b : List ℕ) → (run start a).state ≡ start →
+pub run_then : (a b : List ℕ) → (run start a).state ≡ start →
     run start (a ++ b) ≡ events_then (run start a).events (run start b)
 run_then a b ground =
     run-append start a b ∙ ap (λ (s : State). events_then (run start a).events (run s b)) ground
@@ -110,7 +118,7 @@ portable_then a b doubts middle screen p q =
     (events_portable (run start a).events (run start b).events doubts screen p.events
     (subst (λ (d : Doubts). PortableEvents (run start b).events d (screen_in start screen a)) (sym p.after) q))
 
-portably_then : (a b : List ℕ) (doubts middle left : Doubts) (screen : ScreenValue) →
+pub portably_then : (a b : List ℕ) (doubts middle left : Doubts) (screen : ScreenValue) →
     ReadsPortably a doubts screen middle → ReadsPortably b middle (screen_in start screen a) left →
     ReadsPortably (a ++ b) doubts screen left
 portably_then a b doubts middle left screen p q = record {
@@ -137,7 +145,7 @@ event_portably text event element doubts screen gives is p = record {
 }
 
 -- A control sequence without private markers, whose parameters are single numbers.
-csi_portably : (text : List ℕ) (final : ℕ) (groups : List (List ℕ)) (element : Use) (doubts : Doubts) (screen : ScreenValue) →
+pub csi_portably : (text : List ℕ) (final : ℕ) (groups : List (List ℕ)) (element : Use) (doubts : Doubts) (screen : ScreenValue) →
     IsParameterText text → IsFinal final → (table_of text).groups ≡ groups → has_single_numbers groups ≡ true →
     csi_use groups final screen.last ≡ element → IsPortableUse element doubts (canvas_of screen) →
     ReadsPortably (csi text final) doubts screen (doubts_after element doubts (canvas_of screen))
@@ -147,14 +155,14 @@ csi_portably text final groups element doubts screen is is_final table single e 
     ∙ ap (λ (gs : List (List ℕ)). back_with (CsiDispatch gs [] final ∷ [])) table)
     (ap (λ (b : Bool). if b then csi_use groups final screen.last else Other) single ∙ e) p
 
-alone_portably : (final : ℕ) (element : Use) (doubts : Doubts) (screen : ScreenValue) → IsFinal final →
+pub alone_portably : (final : ℕ) (element : Use) (doubts : Doubts) (screen : ScreenValue) → IsFinal final →
     csi_use ((0 ∷ []) ∷ []) final screen.last ≡ element → IsPortableUse element doubts (canvas_of screen) →
     ReadsPortably (csi [] final) doubts screen (doubts_after element doubts (canvas_of screen))
 alone_portably final element doubts screen is_final e p =
     csi_portably [] final ((0 ∷ []) ∷ []) element doubts screen tt is_final empty_groups refl e p
 
 -- A control sequence with a count other than 0.
-counted_portably : (n final : ℕ) (element : Use) (doubts : Doubts) (screen : ScreenValue) → suc n < 2 ^ 16 → IsFinal final →
+pub counted_portably : (n final : ℕ) (element : Use) (doubts : Doubts) (screen : ScreenValue) → suc n < 2 ^ 16 → IsFinal final →
     ((groups : List (List ℕ)) → number_or 1 0 groups ≡ suc n → csi_use groups final screen.last ≡ element) →
     IsPortableUse element doubts (canvas_of screen) →
     ReadsPortably (counted (suc n) final) doubts screen (doubts_after element doubts (canvas_of screen))
@@ -229,7 +237,7 @@ printed_canvas c screen = by_page screen.is_alternate _ where
   by_page true scrollback = refl
   by_page false scrollback = refl
 
-character_reads : (c : ℕ) → IsDrawn c → run start (encode_utf8 c) ≡ back_with (Character c ∷ [])
+pub character_reads : (c : ℕ) → IsDrawn c → run start (encode_utf8 c) ≡ back_with (Character c ∷ [])
 character_reads c p = let range = shown_range c p.shown in read_written c p.scalar (grind (arith, range))
 
 character_canvas : (c : ℕ) (screen : ScreenValue) → IsDrawn c →
@@ -239,7 +247,7 @@ character_canvas c screen p =
     ∙ (ap (λ (list : List steps.Step). canvas_of (screen_after_all (list ++ []) screen)) (prints c p)
     ∙ printed_canvas c screen)
 
-character_portably : (c : ℕ) (doubts : Doubts) (screen : ScreenValue) → IsDrawn c →
+pub character_portably : (c : ℕ) (doubts : Doubts) (screen : ScreenValue) → IsDrawn c →
     IsPortableUse (Graphic c) doubts (canvas_of screen) →
     ReadsPortably (encode_utf8 c) doubts screen (doubts_after (Graphic c) doubts (canvas_of screen))
 character_portably c doubts screen p h =
@@ -263,7 +271,7 @@ text_portably (c ∷ cs) doubts screen (p, ps) h =
 
 -- ---- each operation
 
-control_portably : (b : ℕ) (element : Use) (doubts : Doubts) (screen : ScreenValue) → b < 0x20 → (b ≡ 0x1B → ⊥) →
+pub control_portably : (b : ℕ) (element : Use) (doubts : Doubts) (screen : ScreenValue) → b < 0x20 → (b ≡ 0x1B → ⊥) →
     control_use b ≡ element → IsPortableUse element doubts (canvas_of screen) →
     ReadsPortably (b ∷ []) doubts screen (doubts_after element doubts (canvas_of screen))
 control_portably b element doubts screen low other e p =
@@ -311,7 +319,7 @@ unfolding fresh_step class_of escape_use
 restored_portably doubts screen p =
     event_portably (bytes_of RestoreCursor) (EscDispatch [] 0x38) Decrc doubts screen refl refl p
 
-op_portably : (op : Op) (doubts : Doubts) (screen : ScreenValue) → Fits op → IsPortableOp op doubts (canvas_of screen) →
+pub op_portably : (op : Op) (doubts : Doubts) (screen : ScreenValue) → Fits op → IsPortableOp op doubts (canvas_of screen) →
     ReadsPortably (bytes_of op) doubts screen (doubts_after_op op doubts (canvas_of screen))
 unfolding csi_use control_use
 op_portably (Hide hidden) doubts screen f p = hidden_portably hidden doubts screen

@@ -75,7 +75,7 @@ keeps_event width before after text event reads keeps = record {
 
 -- ---- characters
 
-page_sent : (step : Action) (screen : ScreenValue) →
+pub page_sent : (step : Action) (screen : ScreenValue) →
     (screen_after_scrolling_step step screen).page ≡ (display_after step screen).page
 page_sent step screen =
     by_page screen.is_alternate

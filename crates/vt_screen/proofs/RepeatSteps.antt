@@ -137,10 +137,10 @@ all_read zero c is = tt
 all_read (suc n) c is = ((is.scalar, drawn_low c is), all_read n c is)
 
 -- The events of a character that is written several times.
-abbrev printed : (n c : ℕ) → List Event
+abbrev pub printed : (n c : ℕ) → List Event
 printed n c = map Character (replicate n c)
 
-copies_read : (n c : ℕ) → IsDrawn c → run start (copies n c) ≡ back_with (printed n c)
+pub copies_read : (n c : ℕ) → IsDrawn c → run start (copies n c) ≡ back_with (printed n c)
 copies_read n c is = read_text (replicate n c) (all_read n c is)
 
 pub repeat_read : (n : ℕ) → n ≤ 65535 → run start (repeat_text n) ≡ back_with (CsiDispatch ((n ∷ []) ∷ []) [] 0x62 ∷ [])
@@ -148,17 +148,17 @@ repeat_read n h =
     read_csi (decimal n) 0x62 (decimal_is_parameter n h) (omega arith) (omega arith)
     ∙ ap (λ (groups : List (List ℕ)). back_with (CsiDispatch groups [] 0x62 ∷ [])) (decimal_groups n h)
 
-count_itself : (n : ℕ) → 0 < n → number_or 1 0 ((n ∷ []) ∷ []) ≡ n
+pub count_itself : (n : ℕ) → 0 < n → number_or 1 0 ((n ∷ []) ∷ []) ≡ n
 count_itself n h = let t : (n == 0) ≡ false = grind (arith, nat_tests) in rw t refl
 
-repeat_steps : (n c : ℕ) (screen : ScreenValue) → 0 < n → screen.last ≡ Some c →
+pub repeat_steps : (n c : ℕ) (screen : ScreenValue) → 0 < n → screen.last ≡ Some c →
     steps_of (CsiDispatch ((n ∷ []) ∷ []) [] 0x62) (seen_of screen) ≡ replicate n (Print c)
 unfolding counted_step scrolling_steps
 repeat_steps n c screen h last =
     ap (λ (o : Option ℕ). repeated (number_or 1 0 ((n ∷ []) ∷ [])) o) last
     ∙ ap (λ (k : ℕ). replicate k (Print c)) (count_itself n h)
 
-copies_steps : (n c : ℕ) (screen : ScreenValue) → IsDrawn c → steps_of_all (printed n c) screen ≡ replicate n (Print c)
+pub copies_steps : (n c : ℕ) (screen : ScreenValue) → IsDrawn c → steps_of_all (printed n c) screen ≡ replicate n (Print c)
 copies_steps zero c screen is = refl
 copies_steps (suc n) c screen is =
     ap (λ (xs : List Action). xs ++ steps_of_all (printed n c) (screen_after_all xs screen)) (prints c is)
@@ -215,7 +215,7 @@ repeated_alike n c screen some fits is last =
 
 -- ---- the character before REP
 
-printed_last : (c : ℕ) (screen : ScreenValue) → columns_of c ≡ Some 1 → 0 < screen.page.width →
+pub printed_last : (c : ℕ) (screen : ScreenValue) → columns_of c ≡ Some 1 → 0 < screen.page.width →
     (screen_after (Print c) screen).last ≡ Some c
 printed_last c screen one wide = by_page screen.is_alternate
     (scrollback_after_push (length screen.page.rows) screen.page.width (rows_scrolled_off (Print c) screen) screen.scrollback)

@@ -64,7 +64,7 @@ skips_visibility width room bytes begins = record { progress = omega arith; insi
     by_which (inl e) = subst (KeepsRoom width room room) (sym e) (keeps_visibility width room false)
     by_which (inr e) = subst (KeepsRoom width room room) (sym e) (keeps_visibility width room true)
 
-sequence_taken : (bytes : List ℕ) (count : ℕ) → Opens bytes → 2 + count < length bytes →
+pub sequence_taken : (bytes : List ℕ) (count : ℕ) → Opens bytes → 2 + count < length bytes →
     take (2 + count + 1) bytes ≡ csi (take count (drop 2 bytes)) (get_or bytes (2 + count) 0)
 sequence_taken bytes count opens h =
     take_more bytes (2 + count) 0 h
@@ -276,6 +276,7 @@ finds_run repeat width room left at count after text rest first front back e kee
   shorter = is.shorter;
   fits = is.fits;
   utf8 = is.utf8;
+  apart = is.apart;
 }
   where
     begins : take (length first) (copies (suc count) is.character ++ back) ≡ first

@@ -5,13 +5,16 @@ use Rattle.std.proofs.Common.{arith, length-append}
 use Rattle.std.specs.Char.{encode_utf8}
 use Rattle.std.specs.List.{AllByRecursion, flat_map}
 use Rattle.std.proofs.lemmas.List.{flat_map_more}
-use Rattle.vt_scan.specs.Automaton.{State, start}
+use Rattle.vt_redraw.specs.Doubts.{Doubts}
+use Rattle.vt_scan.specs.Automaton.{State, Step, start}
 use Rattle.vt_scan.specs.Run.{run}
 use Rattle.vt_screen.specs.CallsOfRun.{screen_after_all, screen_in}
 use Rattle.vt_screen.specs.Diffs.{diff_controls, diff_finals}
 use Rattle.vt_screen.specs.Internals.{IsSized}
 use Rattle.vt_screen.specs.MadeOf.{Characters, IsMadeOf, Numbered}
-use Rattle.vt_screen.specs.RepeatInternals.{AppendsRepeating, Finds, HasRoom, KeepsPieces, KeepsPiecesBefore, KeepsRoom, Shortens}
+use Rattle.vt_screen.specs.Portable.{ReadsAgreed}
+use Rattle.vt_screen.specs.RepeatInternals.{AppendsRepeating, Finds, HasRoom, IsApart, KeepsAgreed, KeepsPieces}
+use Rattle.vt_screen.specs.RepeatInternals.{KeepsPiecesBefore, KeepsRoom, Shortens}
 use Rattle.vt_screen.specs.Repeating.{HasNoRepeat, HasRuns, IsNarrow, IsReaderWithRoom, IsRepeatable, IsShortened}
 use Rattle.vt_screen.specs.Repeating.{ReadsAlike, Repeats, RepeatsInRows}
 use Rattle.vt_screen.specs.Repeating.{Run, copies, full_text, repeat_text, short_text}
@@ -20,11 +23,14 @@ use Rattle.vt_screen.specs.Steps.{Step as Action}
 use Rattle.vt_screen.specs.declared.repeat.Repeat.{Repeat}
 use Rattle.vt_screen.proofs.MadeOf.{made_append, made_more, made_nothing, made_piece}
 use Rattle.vt_screen.proofs.PieceCuts.{lines_after, lines_before, made_cut}
+use Rattle.vt_screen.proofs.PortableReads.{run_then}
+use Rattle.vt_screen.proofs.PortableRepeats.{agreed_itself, run_agrees}
 use Rattle.vt_screen.proofs.Readback.{shown_range}
 use Rattle.vt_screen.proofs.RepeatRooms.{keeps_narrow, keeps_nothing}
 use Rattle.vt_screen.proofs.RepeatSteps.{AlikeFrom, NoneFrom, RowsFrom, alike_itself, alike_then, keeps_then, last_rows}
 use Rattle.vt_screen.proofs.RepeatSteps.{none_first, none_second, rows_from_then, rows_none, run_alike, sized_in}
 use Rattle.vt_screen.proofs.Sized.{sized_screen}
+use Rattle.vt_screen.proofs.StepLists.{screen_in_then}
 
 -- ---- output so far
 
@@ -276,6 +282,7 @@ pub record Written (repeat : Repeat) (width room left : ℕ) (text rest start no
   pub whole : text ≡ done ++ rest
   pub bytes : now ≡ start ++ added
   pub shortens : Shortens repeat width room left done added
+  pub agrees : KeepsAgreed width room text (added ++ rest)
 
 pub written_nothing : (repeat : Repeat) (width room : ℕ) (text start : List ℕ) → Written repeat width room room text text start start
 written_nothing repeat width room text start = record {
@@ -284,11 +291,54 @@ written_nothing repeat width room text start = record {
   whole = refl;
   bytes = sym (append-nil start);
   shortens = shortens_nothing repeat width room;
+  agrees = agreed_itself width room text;
 }
 
 some_copies : (n c : ℕ) → length (repeat_text n) < length (copies n c) → 0 < n
 some_copies zero c h = absurd (omega (arith, h))
 some_copies (suc n) c h = omega arith
+
+-- A run that was found in the rest of the output.
+run_found : (width room left after : ℕ) (done added before back : List ℕ) (n c : ℕ) → IsNarrow c → 0 < n → n ≤ 65535 →
+    KeepsRoom width room left done → (reader : ScreenValue) → ReadsAlike done added reader →
+    KeepsRoom width left (suc n + after) before → IsApart back → (doubts : Doubts) → IsReaderWithRoom width room reader →
+    ReadsAgreed ((added ++ before) ++ (copies (suc n) c ++ back)) doubts reader →
+    ReadsAgreed ((added ++ before) ++ ((encode_utf8 c ++ repeat_text n) ++ back)) doubts reader
+run_found width room left after done added before back n c is some fits keeps reader old more apart doubts reads p =
+    run_agrees (added ++ before) back n c doubts reader ground some fits is
+    (omega (arith, has, column, wide)) apart p
+  where
+    screen : ScreenValue
+    screen = screen_in start reader done
+
+    next : ScreenValue
+    next = screen_in start screen before
+
+    state : (run start added).state ≡ start
+    state = old.state ∙ keeps.ground
+
+    ground : (run start (added ++ before)).state ≡ start
+    ground = ap (λ (s : Step). s.state) (run_then added before state) ∙ more.ground
+
+    there : screen_in start reader (added ++ before) ≡ next
+    there =
+        screen_in_then start reader added before
+        ∙ (ap (λ (s : State). screen_in s (screen_in start reader added) before) state
+        ∙ ap (λ (steps : List Action). screen_in start (screen_after_all steps reader) before) old.steps)
+
+    sized : IsSized (length reader.page.rows) width screen
+    sized = reader_sized width room reader done reads
+
+    has : next.page.column + (suc n + after) ≤ width
+    has = more.room (length reader.page.rows) screen sized (room_after width room left done reader keeps reads) (omega arith)
+
+    column : (screen_in start reader (added ++ before)).page.column ≡ next.page.column
+    column = ap (λ (s : ScreenValue). s.page.column) there
+
+    wide : (screen_in start reader (added ++ before)).page.width ≡ width
+    wide =
+        ap (λ (s : ScreenValue). s.page.width) there
+        ∙ (sized_in (length reader.page.rows) width start screen before sized).page.width_is
 
 pub written_run : (repeat : Repeat) (width room left after : ℕ) (text rest start now front back middle new : List ℕ)
     (n : ℕ) →
@@ -317,6 +367,16 @@ written_run repeat width room left after text rest start now front back middle n
             fits = finds.fits;
             shorter = finds.shorter;
           });
+      agrees = λ reader doubts is p.
+          subst (λ (t : List ℕ). ReadsAgreed t doubts reader)
+          (append_assoc w.added before ((encode_utf8 c ++ repeat_text n) ++ back)
+          ∙ (ap (λ (t : List ℕ). w.added ++ t) (sym (append_assoc before (encode_utf8 c ++ repeat_text n) back))
+          ∙ sym (append_assoc w.added (before ++ (encode_utf8 c ++ repeat_text n)) back)))
+          (run_found width room left after w.done w.added before back n c finds.narrow (some_copies n c finds.shorter)
+          finds.fits w.shortens.keeps reader (w.shortens.same reader is.sound) finds.keeps finds.apart doubts is
+          (subst (λ (t : List ℕ). ReadsAgreed t doubts reader)
+          (ap (λ (t : List ℕ). w.added ++ t) finds.whole ∙ sym (append_assoc w.added before (copies (suc n) c ++ back)))
+          (w.agrees reader doubts is p)));
     }
 
 pub written_end : (repeat : Repeat) (width room left : ℕ) (text rest start now after : List ℕ) →
@@ -330,6 +390,7 @@ written_end repeat width room left text rest start now after w e = record {
       let parts = w.shortens.pieces scroll rest
       (subst (IsMadeOf (diff_finals scroll) (diff_controls scroll)) w.whole made) in
       made_append (0x62 ∷ diff_finals scroll) (diff_controls scroll) w.added rest parts.1 (with_repeat scroll rest parts.0);
+  agrees = w.agrees;
 }
 
 -- The pieces of output that is unchanged.

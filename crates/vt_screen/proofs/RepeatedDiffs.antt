@@ -1,22 +1,25 @@
 -- A diff in which runs are written with REP promises what the diff without REP promises.
-use Rattle.std.proofs.Common.{◌≡◌, ℕ, ◌-◌, ◌≤◌, Bool, List, [], ◌∷◌, ◌++◌, length, refl, sym, ap, subst}
+use Rattle.std.proofs.Common.{◌≡◌, ℕ, ◌-◌, ◌≤◌, Bool, true, false, List, [], ◌∷◌, ◌++◌, length, refl, sym, ap, subst}
 use Rattle.std.proofs.Common.{◌∙◌, arith, length-append}
-use Rattle.std.specs.Prelude.{IsTrue}
+use Rattle.std.specs.Prelude.{IsTrue, if◌then◌else◌}
 use Rattle.std.specs.Char.{encode_utf8}
 use Rattle.std.specs.List.{AllByRecursion, flat_map}
+use Rattle.vt_redraw.specs.Doubts.{doubts_of}
 use Rattle.vt_redraw.specs.Picture.{Picture}
 use Rattle.vt_redraw.specs.declared.form.Form.{Form}
+use Rattle.vt_redraw.specs.declared.form.Form.TheVariants.{Fixed}
 use Rattle.vt_scan.specs.Automaton.{start}
 use Rattle.vt_screen.specs.Again.{IsNoCallback, KeepsAside, LeavesPlain}
 use Rattle.vt_screen.specs.CallsOfRun.{screen_after_all, screen_in}
 use Rattle.vt_screen.specs.DiffInternals.{IsPlainDiff}
 use Rattle.vt_screen.specs.Diffs.{KeepsScreensPlain, MayRepeat, RepeatsOnlyInRows, diff_controls, diff_finals, finals_with}
 use Rattle.vt_screen.specs.MadeOf.{IsMadeOf}
-use Rattle.vt_screen.specs.RepeatInternals.{KeepsPieces}
+use Rattle.vt_screen.specs.RepeatInternals.{KeepsAgreed, KeepsPieces}
 use Rattle.vt_screen.specs.Repeating.{HasRuns, IsReaderWithRoom, IsShortened, ReadsAlike, Repeats, Run}
 use Rattle.vt_screen.specs.Repeating.{full_text, repeat_text, short_text}
+use Rattle.vt_screen.specs.Portable.{IsPortableFrom}
 use Rattle.vt_screen.specs.Screen.{IsScreen, ScreenValue}
-use Rattle.vt_screen.specs.Shown.{IsPlain, IsReaderOf, IsSameIfEmpty, IsReadBy, Makes, ReadsTo, RedrawsFrom, display, shown_text}
+use Rattle.vt_screen.specs.Shown.{IsPlain, IsReaderOf, IsSameIfEmpty, IsReadBy, Makes, ReadsTo, RedrawsFrom, display, form_of, shown_text}
 use Rattle.vt_screen.specs.Steps.{Step as Action}
 use Rattle.vt_screen.specs.declared.repeat.Repeat.{Repeat}
 use Rattle.vt_screen.specs.declared.repeat.Repeat.TheVariants.{Never, Ascii, Any}
@@ -133,12 +136,27 @@ diff_none repeat form scroll was new plain text is may same =
     nothing text (omega (arith, none, less))
 
 pub diff_redraw : (repeat : Repeat) (form : Form) (scroll : Bool) (was new : ScreenValue) (plain text : List ℕ) →
-    IsPlainDiff form scroll was new plain → MayRepeat repeat was plain text → IsTrue scroll →
+    IsPlainDiff form scroll was new plain → MayRepeat repeat was plain text → form ≡ Fixed → IsTrue scroll →
     length text ≤ length (shown_text new)
-diff_redraw repeat form scroll was new plain text is may scrolls =
-    let long = is.redraw scrolls in
+diff_redraw repeat form scroll was new plain text is may fixed scrolls =
+    let long = is.redraw fixed scrolls in
     let less = (of_may_repeat repeat was plain text may).shorter in
     omega (arith, long, less)
+
+-- A diff that may move rows or columns is a scrolling one in the fixed form.
+pub moving_fixed : (portable scroll : Bool) → IsTrue (if portable then false else scroll) →
+    (form_of portable ≡ Fixed) × IsTrue scroll
+moving_fixed true scroll moves = absurd cc
+moving_fixed false scroll moves = (refl, moves)
+
+-- A portable diff stays portable when runs are written with REP.
+pub diff_portable : (portable : Bool) (form : Form) (scroll : Bool) (was new : ScreenValue) (plain text : List ℕ) →
+    IsPlainDiff form scroll was new plain → KeepsAgreed was.page.width (was.page.width - was.page.column) plain text →
+    form ≡ form_of portable → IsTrue portable → IsPortableFrom was new text
+diff_portable false form scroll was new plain text is keeps e asked = absurd cc
+diff_portable true form scroll was new plain text is keeps e asked = λ steady reader reads.
+    keeps reader (doubts_of (display was)) (reader_with_room was new reader reads)
+    (is.portable e steady reader reads)
 
 -- Empty output stands for no runs.
 runs_nothing : (runs : List Run) (rest plain text : List ℕ) → plain ≡ flat_map full_text runs ++ rest →

@@ -9,6 +9,8 @@ use Rattle.vt_grid.specs.Moves.{feeds_out, line_feed, moved}
 use Rattle.vt_grid.specs.Page.{Page}
 use Rattle.vt_grid.specs.declared.grid.moves.CursorMove.TheVariants.{Return, Right, Tab, ToColumn}
 use Rattle.vt_grid.specs.declared.page_step.PageStep.TheVariants.{Move}
+use Rattle.vt_redraw.specs.declared.form.Form.{Form}
+use Rattle.vt_redraw.specs.declared.form.Form.TheVariants.{Portable}
 use Rattle.vt_scan.specs.Automaton.{start, fresh_step}
 use Rattle.vt_scan.specs.Table.{class_of}
 use Rattle.vt_scan.proofs.Written.{decimal_groups, decimal_is_parameter}
@@ -16,7 +18,8 @@ use Rattle.vt_screen.specs.Controls.{control_steps, counted_step, seen_of, unmar
 use Rattle.vt_screen.specs.MadeOf.{Control, IsMadeOf, Numbered, shortened_controls, shortened_finals}
 use Rattle.vt_screen.specs.Reading.{quiet_steps, read_byte, terminal}
 use Rattle.vt_screen.specs.Screen.{ScreenValue, canvas_of, with_page}
-use Rattle.vt_screen.specs.ShortMoves.{AppendsReplacement, IsAtPos, IsLastPart, IsPlainSized, IsRoute, LeadsTo, column_after_last, column_after_route}
+use Rattle.vt_screen.specs.ShortMoves.{AppendsReplacement, IsAtPos, IsLastPart, IsPlainSized, IsRoute, KeepsPortable, LeadsTo}
+use Rattle.vt_screen.specs.ShortMoves.{column_after_last, column_after_route}
 use Rattle.vt_screen.specs.ShortMoves.{column_after_tabs, last_text, next_stop, route_text, with_cursor}
 use Rattle.vt_screen.specs.Shown.{ReadsTo}
 use Rattle.vt_screen.specs.Steps.{OnPage, display_after}
@@ -199,7 +202,7 @@ feed_read screen whole inside =
     fed_read screen (record (canvas_of screen) { page = record screen.page { row = screen.page.row + 1 } })
     (rw (none, goes) refl)
 
-feeds_read : (n : ℕ) (screen : ScreenValue) → screen.page.bottom + 1 ≡ length screen.page.rows →
+pub feeds_read : (n : ℕ) (screen : ScreenValue) → screen.page.bottom + 1 ≡ length screen.page.rows →
     screen.page.row + n < length screen.page.rows → ReadsTo (replicate n 0x0A) screen (down n screen)
 feeds_read zero screen whole inside =
     let e : screen.page.row ≡ screen.page.row + 0 = omega arith in
@@ -268,25 +271,29 @@ route_leads rows cols from to route is low = record {
         ∙ ap (λ c. Some (terminal start (record screen { page = record screen.page { row = to.row; column = c } }))) (sym is.column)
 
 -- A route was appended instead of the movement `head`.
-pub move_appended : (rows cols : ℕ) (known : Option Pos) (from to : Pos) (route : Route) (head before after : List ℕ)
+pub move_appended : (form : Form) (rows cols : ℕ) (known : Option Pos) (from to : Pos) (route : Route) (head before after : List ℕ)
     → known ≡ Some from → LeadsTo rows cols known to head → IsRoute cols route from to → to.row < rows → to.col < cols
     → length (route_text route) < length head → after ≡ before ++ route_text route
-    → AppendsReplacement rows cols known (Some to) head before after
-move_appended rows cols known from to route head before after at leads is low inside shorter appends =
+    → (form ≡ Portable → KeepsPortable rows cols known (Some to) head (route_text route))
+    → AppendsReplacement form rows cols known (Some to) head before after
+move_appended form rows cols known from to route head before after at leads is low inside shorter appends keeps =
     let short : LeadsTo rows cols known to (route_text route) =
     subst (λ (k : Option Pos). LeadsTo rows cols k to (route_text route)) (sym at) (route_leads rows cols from to route is low) in
     record {
       text = route_text route;
       appends = appends;
       replaces = leads_replace rows cols known to head (route_text route) inside leads short (omega (arith, shorter));
+      portable = keeps;
     }
 
 -- The movement was appended as it is.
-pub same_appended : (rows cols : ℕ) (known : Option Pos) (to : Pos) (head before after : List ℕ)
+pub same_appended : (form : Form) (rows cols : ℕ) (known : Option Pos) (to : Pos) (head before after : List ℕ)
     → LeadsTo rows cols known to head → to.col < cols → after ≡ before ++ head
-    → AppendsReplacement rows cols known (Some to) head before after
-same_appended rows cols known to head before after leads inside appends = record {
+    → KeepsPortable rows cols known (Some to) head head
+    → AppendsReplacement form rows cols known (Some to) head before after
+same_appended form rows cols known to head before after leads inside appends keeps = record {
   text = head;
   appends = appends;
   replaces = leads_replace rows cols known to head head inside leads leads (omega arith);
+  portable = λ p. keeps;
 }

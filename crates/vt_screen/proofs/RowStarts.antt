@@ -6,13 +6,14 @@ use Rattle.vt_grid.specs.Moves.{moved, target_row}
 use Rattle.vt_grid.specs.Page.{Page}
 use Rattle.vt_grid.specs.declared.grid.moves.CursorMove.TheVariants.{To}
 use Rattle.vt_grid.specs.declared.page_step.PageStep.TheVariants.{Move}
+use Rattle.vt_redraw.specs.declared.form.Form.{Form}
 use Rattle.vt_scan.specs.Automaton.{start}
 use Rattle.vt_scan.proofs.Written.{decimal_groups, decimal_is_parameter}
 use Rattle.vt_screen.specs.Controls.{counted_step, other_steps, scrolling_steps, seen_of, unmarked_steps}
 use Rattle.vt_screen.specs.MadeOf.{Numbered, shortened_controls, shortened_finals}
 use Rattle.vt_screen.specs.Reading.{quiet_steps, terminal}
 use Rattle.vt_screen.specs.Screen.{ScreenValue, with_page}
-use Rattle.vt_screen.specs.ShortMoves.{AppendsReplacement, IsPlainSized, LeadsTo, row_start_text}
+use Rattle.vt_screen.specs.ShortMoves.{AppendsReplacement, IsPlainSized, KeepsPortable, LeadsTo, row_start_text}
 use Rattle.vt_screen.specs.Shown.{ReadsTo}
 use Rattle.vt_screen.specs.Steps.{OnPage, display_after}
 use Rattle.vt_screen.proofs.MadeOf.{made_piece}
@@ -63,13 +64,15 @@ row_start_leads rows cols known to small low first = record {
         ∙ ap (λ x. record screen.page { row = to.row; column = x }) c
 
 -- CUP without a column was appended instead of the movement `head`.
-pub row_start_appended : (rows cols : ℕ) (known : Option Pos) (to : Pos) (head before after : List ℕ)
+pub row_start_appended : (form : Form) (rows cols : ℕ) (known : Option Pos) (to : Pos) (head before after : List ℕ)
     → LeadsTo rows cols known to head → to.row < 65535 → to.row < rows → to.col < cols → to.col ≡ 0
     → length (row_start_text to.row) ≤ length head → after ≡ before ++ row_start_text to.row
-    → AppendsReplacement rows cols known (Some to) head before after
-row_start_appended rows cols known to head before after leads small low inside first shorter appends = record {
+    → KeepsPortable rows cols known (Some to) head (row_start_text to.row)
+    → AppendsReplacement form rows cols known (Some to) head before after
+row_start_appended form rows cols known to head before after leads small low inside first shorter appends keeps = record {
   text = row_start_text to.row;
   appends = appends;
   replaces = leads_replace rows cols known to head (row_start_text to.row) inside leads
       (row_start_leads rows cols known to small low first) shorter;
+  portable = λ p. keeps;
 }

@@ -1,26 +1,34 @@
--- Reading a scrolling diff whose cursor movements were shortened.
-use Rattle.std.proofs.Common.{◌≡◌, ℕ, ◌<◌, ◌≤◌, Bool, true, false, nat_lt, List, length, Some, None, refl, sym, ap, subst, ◌∙◌, arith, inl, inr}
+-- Reading a diff whose cursor movements were shortened.
+use Rattle.std.proofs.Common.{◌≡◌, ℕ, ◌<◌, ◌≤◌, Bool, true, false, nat_lt, List, [], ◌∷◌, length, Some, None, refl, sym, ap, subst, ◌∙◌, arith, inl, inr}
 use Rattle.std.specs.Prelude.{if◌then◌else◌}
 use Rattle.std.proofs.lemmas.Bool.Decides.{nat_tests}
 use Rattle.vt_cells.specs.Attrs.{default_attrs}
 use Rattle.vt_cells.proofs.Same.{attrs_of-same}
+use Rattle.vt_grid.specs.Page.{row_or}
+use Rattle.vt_rows.specs.Cells.{ends_blank}
+use Rattle.vt_redraw.specs.Doubts.{NotPending, Pending, Unsure, doubts_of}
 use Rattle.vt_redraw.specs.Picture.{Picture}
+use Rattle.vt_redraw.specs.declared.form.Form.{Form}
+use Rattle.vt_redraw.specs.declared.form.Form.TheVariants.{Portable}
 use Rattle.vt_redraw.specs.Shifted.{IsMoving}
 use Rattle.vt_scan.specs.Automaton.{start}
 use Rattle.vt_screen.specs.Again.{KeepsPlain}
+use Rattle.vt_screen.specs.DiffInternals.{IsPlainDiff}
 use Rattle.vt_screen.specs.Gaps.{IsShortVersion, ReplacesWhole, Tracks, known_at_start, picture_cell}
-use Rattle.vt_screen.specs.MadeOf.{IsMadeOf, drawing_controls, shortened_controls, shortened_finals}
+use Rattle.vt_screen.specs.MadeOf.{IsMadeOf, drawing_controls, drawing_finals, shortened_controls, shortened_finals}
+use Rattle.vt_screen.specs.Portable.{IsPortable}
 use Rattle.vt_screen.specs.Reading.{terminal, terminal_after}
 use Rattle.vt_screen.specs.Screen.{IsColored, IsScreen, ScreenValue}
-use Rattle.vt_screen.specs.ShortMoves.{IsAt, IsShortMoving, known_cursor}
+use Rattle.vt_screen.specs.ShortMoves.{IsAgreed, IsAt, IsShortMoving, IsShortened, known_cursor}
 use Rattle.vt_screen.specs.declared.short_moves.known.Known.{Known}
-use Rattle.vt_screen.specs.Shown.{IsReaderOf, IsSameIfEmpty, RedrawsFrom, display}
+use Rattle.vt_screen.specs.Shown.{IsReadBy, IsReaderOf, IsSameIfEmpty, RedrawsFrom, display}
 use Rattle.vt_screen.proofs.ContentTexts.{none_refused}
 use Rattle.vt_screen.proofs.MadeOf.{made_more, moving_made, scrolling_finals}
-use Rattle.vt_screen.proofs.MovedRead.{AreDiffed}
-use Rattle.vt_screen.proofs.ShiftedAgain.{moving_keeps}
-use Rattle.vt_screen.proofs.ShiftedRead.{moving_redraws, moving_tells}
 use Rattle.vt_screen.proofs.Shown.{plain_shown, shown_height}
+
+nothing : (xs : List ℕ) → length xs ≤ 0 → xs ≡ []
+nothing [] h = refl
+nothing (x ∷ xs) h = absurd (omega (arith, h))
 
 -- A terminal that displays what a screen displays has its cursor where that screen has it.
 reader_at : (self prev : Picture) (screen reader : ScreenValue) → prev ≡ display screen → IsReaderOf self prev reader →
@@ -41,9 +49,9 @@ reader_at self prev screen reader e is = by_wrap (nat_lt screen.page.column scre
         }
     by_wrap false outside = tt
 
-reader_tracked : (self : Picture) (prev reader : ScreenValue) → IsReaderOf self (display prev) reader →
-    Tracks (length (display prev).rows) (display prev).width (picture_cell (display prev)) (known_at_start prev) reader
-reader_tracked self prev reader is = record {
+reader_tracked : (form : Form) (self : Picture) (prev reader : ScreenValue) → IsReaderOf self (display prev) reader →
+    Tracks (length (display prev).rows) (display prev).width (picture_cell (display prev)) (known_at_start form prev) reader
+reader_tracked form self prev reader is = record {
   sized = record {
     plain = is.is.plain;
     height = sym (shown_height reader) ∙ ap (λ (p : Picture). length p.rows) is.shows;
@@ -58,31 +66,34 @@ reader_tracked self prev reader is = record {
   };
 }
 
-pub version_same : (self : Picture) (prev : ScreenValue) (old text : List ℕ) → IsShortVersion prev old text →
+pub version_same : (form : Form) (self : Picture) (prev : ScreenValue) (old text : List ℕ) → IsShortVersion form prev old text →
     (reader : ScreenValue) → IsReaderOf self (display prev) reader →
     terminal_after (terminal start reader) text ≡ terminal_after (terminal start reader) old
-version_same self prev old text (inl e) reader is = ap (terminal_after (terminal start reader)) e
-version_same self prev old text (inr r) reader is =
-    r.1.stands.same reader (reader_tracked self prev reader is)
+version_same form self prev old text (inl e) reader is = ap (terminal_after (terminal start reader)) e
+version_same form self prev old text (inr r) reader is =
+    r.1.stands.same reader (reader_tracked form self prev reader is)
 
-pub version_shorter : (prev : ScreenValue) (old text : List ℕ) → IsShortVersion prev old text → length text ≤ length old
-version_shorter prev old text (inl e) = let same : length text ≡ length old = ap (λ (xs : List ℕ). length xs) e in omega (arith, same)
-version_shorter prev old text (inr r) = r.1.stands.shorter
+pub version_shorter : (form : Form) (prev : ScreenValue) (old text : List ℕ) → IsShortVersion form prev old text → length text ≤ length old
+version_shorter form prev old text (inl e) = let same : length text ≡ length old = ap (λ (xs : List ℕ). length xs) e in omega (arith, same)
+version_shorter form prev old text (inr r) = r.1.stands.shorter
 
-pub version_moving : (self : Picture) (prev : ScreenValue) (old text : List ℕ) → IsMoving self (display prev) old →
-    IsShortVersion prev old text → IsShortMoving self (display prev) text
-version_moving self prev old text moving is = record {
+pub version_shortened : (form : Form) (self : Picture) (prev : ScreenValue) (old text : List ℕ) →
+    IsShortVersion form prev old text → IsShortened self (display prev) old text
+version_shortened form self prev old text is =
+    record { same = version_same form self prev old text is; shorter = version_shorter form prev old text is }
+
+pub version_moving : (form : Form) (self : Picture) (prev : ScreenValue) (old text : List ℕ) → IsMoving self (display prev) old →
+    IsShortVersion form prev old text → IsShortMoving self (display prev) text
+version_moving form self prev old text moving is = record {
   plain = old;
   moving = moving;
-  same = version_same self prev old text is;
-  shorter = version_shorter prev old text is;
+  short = version_shortened form self prev old text is;
 }
 
-pub version_redraws : (self prev : ScreenValue) (old text : List ℕ) → AreDiffed self prev →
-    IsMoving (display self) (display prev) old → IsShortVersion prev old text → RedrawsFrom prev self text
-version_redraws self prev old text d moving is =
-    let known = moving_redraws self prev old d moving in
-    let same = version_same (display self) prev old text is in record {
+pub version_redraws : (form : Form) (self prev : ScreenValue) (old text : List ℕ) → RedrawsFrom prev self old →
+    IsShortVersion form prev old text → RedrawsFrom prev self text
+version_redraws form self prev old text known is =
+    let same = version_same form (display self) prev old text is in record {
       quiet = λ steady reader r. let (after, reads) = known.quiet steady reader r in (after, same reader r ∙ reads);
       shows = λ steady reader after r reads. known.shows steady reader after r (sym (same reader r) ∙ reads);
       rows = λ steady reader after r reads. known.rows steady reader after r (sym (same reader r) ∙ reads);
@@ -90,33 +101,86 @@ version_redraws self prev old text d moving is =
       rest = λ steady reader after r reads. known.rest steady reader after r (sym (same reader r) ∙ reads);
     }
 
-pub version_tells : (self prev : ScreenValue) (old text : List ℕ) → AreDiffed self prev →
-    IsMoving (display self) (display prev) old → IsShortVersion prev old text → IsSameIfEmpty prev self text
-version_tells self prev old text d moving (inl e) steady empty = moving_tells self prev old d steady moving (sym e ∙ empty)
-version_tells self prev old text d moving (inr r) steady empty = absurd (none_refused text empty r.0)
+pub version_tells : (form : Form) (self prev : ScreenValue) (old text : List ℕ) → IsSameIfEmpty prev self old →
+    IsShortVersion form prev old text → IsSameIfEmpty prev self text
+version_tells form self prev old text tells (inl e) steady empty = tells steady (sym e ∙ empty)
+version_tells form self prev old text tells (inr r) steady empty = absurd (none_refused text empty r.0)
 
-pub version_made : (self prev : ScreenValue) (old text : List ℕ) → IsScreen self → IsColored self → IsColored prev →
-    IsMoving (display self) (display prev) old → IsShortVersion prev old text →
+pub version_made : (form : Form) (prev : ScreenValue) (old text : List ℕ) →
+    IsMadeOf shortened_finals shortened_controls old → IsShortVersion form prev old text →
     IsMadeOf shortened_finals shortened_controls text
-version_made self prev old text is colored other moving (inl e) =
-    subst (IsMadeOf shortened_finals shortened_controls) (sym e)
-    (made_more scrolling_finals shortened_finals drawing_controls shortened_controls (λ x one. inr one)
-    (λ x one. inr (inr one)) old (moving_made self prev old is colored other moving))
-version_made self prev old text is colored other moving (inr r) = r.1.stands.made
+version_made form prev old text made (inl e) = subst (IsMadeOf shortened_finals shortened_controls) (sym e) made
+version_made form prev old text made (inr r) = r.1.stands.made
 
-pub version_keeps : (self prev : ScreenValue) (old text : List ℕ) → IsScreen self → IsColored self → IsScreen prev →
-    IsColored prev → IsMoving (display self) (display prev) old → IsShortVersion prev old text → KeepsPlain text
-version_keeps self prev old text is colored sound other moving (inl e) =
-    subst KeepsPlain (sym e) (moving_keeps self prev old is colored sound other moving)
-version_keeps self prev old text is colored sound other moving (inr r) = r.1.stands.keeps
+pub version_keeps : (form : Form) (prev : ScreenValue) (old text : List ℕ) → KeepsPlain old →
+    IsShortVersion form prev old text → KeepsPlain text
+version_keeps form prev old text keeps (inl e) = subst KeepsPlain (sym e) keeps
+version_keeps form prev old text keeps (inr r) = r.1.stands.keeps
 
-pub version_short : (prev : ScreenValue) (picture : Picture) (start : Known) (old whole text : List ℕ)
+-- ---- scrolling diffs
+
+pub moving_short : (self prev : ScreenValue) (old : List ℕ) → IsScreen self → IsColored self → IsColored prev →
+    IsMoving (display self) (display prev) old → IsMadeOf shortened_finals shortened_controls old
+moving_short self prev old is colored other moving =
+    made_more scrolling_finals shortened_finals drawing_controls shortened_controls (λ x one. inr one)
+    (λ x one. inr (inr one)) old (moving_made self prev old is colored other moving)
+
+-- ---- portable diffs
+
+-- Terminals that display a screen's picture agree on the position of the cursor unless a wrap is pending.
+agreed_start : (prev : ScreenValue) → IsAgreed (known_cursor prev) (doubts_of (display prev))
+unfolding doubts_of
+agreed_start prev = by_wrap (nat_lt prev.page.column prev.page.width)
+    (ends_blank (row_or prev.page.width (display prev).rows prev.page.row).cells)
+  where
+    by_wrap : (inside blank : Bool) →
+        IsAgreed (if inside then Some (record { row = prev.page.row; col = prev.page.column }) else None)
+        (record {
+          wrap = if inside then NotPending else if blank then Unsure else Pending;
+          is_shifted = false;
+          is_after_character = false;
+        })
+    by_wrap true blank = record { wrap = refl; place = refl }
+    by_wrap false blank = tt
+
+-- A shortened version of portable output that terminals read quietly is portable.
+pub version_portable : (self : Picture) (prev : ScreenValue) (old text : List ℕ) → IsShortVersion Portable prev old text →
+    IsReadBy (IsReaderOf self (display prev)) old → IsPortable self (display prev) old → IsPortable self (display prev) text
+version_portable self prev old text (inl e) quiet portable = subst (IsPortable self (display prev)) (sym e) portable
+version_portable self prev old text (inr r) quiet portable = λ reader is.
+    let (after, reads) = quiet reader is in
+    (r.1.stands.portable refl reader (doubts_of (display prev)) (terminal start after)
+    (reader_tracked Portable self prev reader is) (agreed_start prev) reads (portable reader is)).agrees
+
+-- Output of a portable diff whose cursor movements were shortened.
+pub portable_shortened : (self prev : ScreenValue) (old text : List ℕ) → IsPlainDiff Portable false prev self old →
+    IsShortVersion Portable prev old text → IsPlainDiff Portable true prev self text
+portable_shortened self prev old text plain is = record {
+  diff = subst (λ (xs : List ℕ). IsShortened (display self) (display prev) xs text) plain.diff
+      (version_shortened Portable (display self) prev old text is);
+  controls = version_made Portable prev old text
+      (made_more drawing_finals shortened_finals drawing_controls shortened_controls
+      (λ x one. inr (inr (inr (inr (inr one))))) (λ x one. inr (inr one)) old plain.controls) is;
+  again = version_keeps Portable prev old text plain.again is;
+  shorter = let less = version_shorter Portable prev old text is in let long = plain.shorter in omega (arith, less, long);
+  redraw = λ fixed scrolls. absurd (cc);
+  redraws = version_redraws Portable self prev old text plain.redraws is;
+  empty = version_tells Portable self prev old text plain.empty is;
+  none = λ same.
+      let less = version_shorter Portable prev old text is in
+      let none = ap (λ (xs : List ℕ). length xs) (plain.none same) in
+      nothing text (omega (arith, less, none));
+  portable = λ form steady.
+      version_portable (display self) prev old text is (plain.redraws.quiet steady) (plain.portable form steady);
+}
+
+pub version_short : (form : Form) (prev : ScreenValue) (picture : Picture) (start : Known) (old whole text : List ℕ)
     → ReplacesWhole (length picture.rows) picture.width (picture_cell picture) start whole text
-    → picture ≡ display prev → start ≡ known_at_start prev → whole ≡ old → 0 < length text → IsShortVersion prev old text
-version_short prev picture start old whole text stands same known e some =
+    → picture ≡ display prev → start ≡ known_at_start form prev → whole ≡ old → 0 < length text → IsShortVersion form prev old text
+version_short form prev picture start old whole text stands same known e some =
     inr (
       some,
-      subst (λ (p : Picture). ReplacesWhole (length p.rows) p.width (picture_cell p) (known_at_start prev) old text) same
+      subst (λ (p : Picture). ReplacesWhole (length p.rows) p.width (picture_cell p) (known_at_start form prev) old text) same
           (subst (λ (k : Known). ReplacesWhole (length picture.rows) picture.width (picture_cell picture) k old text) known
           (subst (λ (xs : List ℕ). ReplacesWhole (length picture.rows) picture.width (picture_cell picture) start xs text) e stands)),
     )

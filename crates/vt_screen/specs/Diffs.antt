@@ -4,7 +4,7 @@ use Rattle.vt_screen.specs.Again.{LeavesPlain}
 use Rattle.vt_screen.specs.MadeOf.{IsMadeOf, drawing_controls, drawing_finals, shortened_controls, shortened_finals}
 use Rattle.vt_screen.specs.Repeating.{Repeats, RepeatsInRows}
 use Rattle.vt_screen.specs.Screen.{IsScreen, ScreenValue}
-use Rattle.vt_screen.specs.ShortMoves.{IsMovingOrRedraw}
+use Rattle.vt_screen.specs.ShortMoves.{IsMovingOrRedraw, IsShortened}
 use Rattle.vt_screen.specs.Shown.{IsPlain, IsReaderOf, display, display_change, display_change_in, form_of}
 use Rattle.vt_redraw.specs.declared.form.Form.{Form}
 use Rattle.vt_redraw.specs.declared.form.Form.TheVariants.{Fixed, Portable}
@@ -12,7 +12,7 @@ use Rattle.vt_screen.specs.declared.diff_options.DiffOptions.{DiffOptions}
 use Rattle.vt_screen.specs.declared.repeat.Repeat.{Repeat}
 use Rattle.vt_screen.specs.declared.repeat.Repeat.TheVariants.{Never}
 
--- Whether a diff with the given options may move rows or columns. Portable diffs move none.
+-- Whether a diff with the given options may move rows or columns, or be the full redraw. Portable diffs do neither.
 abbrev pub may_move : DiffOptions → Bool
 may_move options = if options.portable then false else options.scroll
 
@@ -20,20 +20,22 @@ may_move options = if options.portable then false else options.scroll
 abbrev pub form_with : DiffOptions → Form
 form_with options = form_of options.portable
 
--- The output is a diff from the screen `was` to the screen `new` in the given form. In the fixed form, it may move rows
--- or columns, or be the redraw of `new`, if `scroll` is true. Otherwise, it is the diff that moves neither.
+-- The output is a diff from the screen `was` to the screen `new` in the given form. If `scroll` is true, a diff in the
+-- fixed form may move rows or columns, or be the redraw of `new`, and one in the portable form may be shortened.
+-- Otherwise, it is the diff that moves no rows or columns.
 abbrev pub IsDiff : Form → (scroll : Bool) → (was new : ScreenValue) → List ℕ → Type 0
 IsDiff Fixed true was new text = IsMovingOrRedraw (display new) (display was) text
 IsDiff Fixed false was new text = text ≡ display_change was new
-IsDiff Portable scroll was new text = text ≡ display_change_in Portable was new
+IsDiff Portable true was new text = IsShortened (display new) (display was) (display_change_in Portable was new) text
+IsDiff Portable false was new text = text ≡ display_change_in Portable was new
 
 -- The final bytes of the control sequences with numeric parameters that may occur in a diff without REP, given whether
--- the diff may move rows or columns.
+-- the diff is a scrolling one.
 abbrev pub diff_finals : (scroll : Bool) → List ℕ
 diff_finals true = shortened_finals
 diff_finals false = drawing_finals
 
--- The fixed sequences that may occur in a diff without REP, given whether the diff may move rows or columns.
+-- The fixed sequences that may occur in a diff without REP, given whether the diff is a scrolling one.
 abbrev pub diff_controls : (scroll : Bool) → List (List ℕ)
 diff_controls true = shortened_controls
 diff_controls false = drawing_controls
@@ -54,8 +56,8 @@ MayRepeat repeat was plain text = Repeats repeat was.page.width (was.page.width 
 -- sequences, by writing runs with REP if the options allow it.
 pub record IsDiffWith (options : DiffOptions) (was new : ScreenValue) (text : List ℕ) : Type 0 where
   pub plain : List ℕ
-  pub diff : IsDiff (form_with options) (may_move options) was new plain
-  pub controls : IsMadeOf (diff_finals (may_move options)) (diff_controls (may_move options)) plain
+  pub diff : IsDiff (form_with options) options.scroll was new plain
+  pub controls : IsMadeOf (diff_finals options.scroll) (diff_controls options.scroll) plain
   pub repeats : MayRepeat options.repeat was plain text
 
 -- While a plain terminal that displays the screen `was` reads the output, each REP repeats its character only within

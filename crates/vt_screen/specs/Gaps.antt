@@ -7,15 +7,20 @@ use Rattle.vt_cells.specs.Cell.{CellValue, glyph, text_of}
 use Rattle.vt_cells.specs.Glyph.{columns_of}
 use Rattle.vt_cells.specs.declared.pos.Pos.{Pos}
 use Rattle.vt_grid.specs.Page.{IsPage, Page, cell_at}
+use Rattle.vt_redraw.specs.Certain.{is_certain}
+use Rattle.vt_redraw.specs.Doubts.{Doubts}
 use Rattle.vt_redraw.specs.Locality.{row_of_picture}
 use Rattle.vt_redraw.specs.Picture.{Picture}
+use Rattle.vt_redraw.specs.declared.form.Form.{Form}
+use Rattle.vt_redraw.specs.declared.form.Form.TheVariants.{Portable}
 use Rattle.vt_rows.specs.Cells.{at}
 use Rattle.vt_scan.specs.Automaton.{start}
 use Rattle.vt_screen.specs.Again.{KeepsPlain}
 use Rattle.vt_screen.specs.MadeOf.{IsMadeOf, shortened_controls, shortened_finals}
+use Rattle.vt_screen.specs.Portable.{ReadsAgreed}
 use Rattle.vt_screen.specs.Reading.{Terminal, terminal, terminal_after}
 use Rattle.vt_screen.specs.Screen.{ScreenValue}
-use Rattle.vt_screen.specs.ShortMoves.{IsAfter, IsAsciiCharacter, IsAt, IsPlainSized, known_cursor}
+use Rattle.vt_screen.specs.ShortMoves.{IsAfter, IsAgreed, IsAsciiCharacter, IsAsPortable, IsAt, IsPlainSized, known_cursor}
 use Rattle.vt_screen.specs.Shown.{display}
 use Rattle.vt_screen.specs.declared.short_moves.elements.Element.{Element}
 use Rattle.vt_screen.specs.declared.short_moves.elements.Element.TheVariants as element
@@ -61,7 +66,8 @@ pub record Tracks (height width : ℕ) (cells : ℕ → ℕ → CellValue) (know
   pub kept : IfSome known.kept (λ pos. StillShows cells known.is_default pos screen)
 
 -- On every terminal that is as `known` describes, the output `text` has the same effect as the output `old`, after
--- which the terminal is as `new` describes. Every other plain terminal stays plain. `text` is not longer than `old`.
+-- which the terminal is as `new` describes. Every other plain terminal stays plain. `text` is not longer than `old`. In
+-- the portable form, `text` is portable if `old` is.
 pub record ReplacesTracked (height width : ℕ) (cells : ℕ → ℕ → CellValue) (known new : Known)
     (old text : List ℕ) : Type 0 where
   pub same : (screen : ScreenValue) → Tracks height width cells known screen →
@@ -71,6 +77,11 @@ pub record ReplacesTracked (height width : ℕ) (cells : ℕ → ℕ → CellVal
   pub keeps : KeepsPlain text
   pub made : IsMadeOf shortened_finals shortened_controls text
   pub shorter : length text ≤ length old
+  pub form : new.form ≡ known.form
+  pub portable : known.form ≡ Portable → (screen : ScreenValue) (doubts : Doubts) (t : Terminal) →
+      Tracks height width cells known screen → IsAgreed known.at doubts →
+      terminal_after (terminal start screen) old ≡ Some t → ReadsAgreed old doubts screen →
+      IsAsPortable new.at old text doubts screen
 
 -- The output `text` replaces the output `old` as `ReplacesTracked` describes, for some description `new` of the
 -- terminal afterward.
@@ -96,31 +107,42 @@ pub record AppendsUpTo (height width : ℕ) (cells : ℕ → ℕ → CellValue) 
 
 -- ---- scrolling diffs
 
--- What is known, before any output is read, about a terminal that displays the picture of the given screen.
-abbrev pub known_at_start : ScreenValue → Known
-known_at_start screen = record {
+-- What is known, before output in the given form is read, about a terminal that displays the picture of the given
+-- screen.
+abbrev pub known_at_start : Form → ScreenValue → Known
+known_at_start form screen = record {
+  form = form;
   at = known_cursor screen;
   kept = Some (record { row = 0; col = 0 });
   is_default = same_attrs screen.attrs default_attrs;
 }
 
--- Either `text` equals `old`, or `text` is not empty and can replace `old` on terminals that display the picture of the
--- screen `prev`.
-abbrev pub IsShortVersion : (prev : ScreenValue) (old text : List ℕ) → Type 0
-IsShortVersion prev old text =
+-- Either `text` equals `old`, or `text` is not empty and can replace `old`, which has the given form, on terminals that
+-- display the picture of the screen `prev`.
+abbrev pub IsShortVersion : Form → (prev : ScreenValue) (old text : List ℕ) → Type 0
+IsShortVersion form prev old text =
     (text ≡ old)
     ⊎ ((0 < length text) × ReplacesWhole (length (display prev).rows) (display prev).width
-    (picture_cell (display prev)) (known_at_start prev) old text)
+    (picture_cell (display prev)) (known_at_start form prev) old text)
 
 -- ---- elements that are copied unchanged
 
 -- If the element prints characters, then `known` is a position, and printing the element, whose bytes are given, moves
--- the cursor from there to `to` in the same row of `cols` columns. For any other element, nothing is required.
+-- the cursor from there to `to` in the same row of `cols` columns. Any other element leaves the cursor at `known`, which
+-- is `to`. False for elements that only move the cursor.
 abbrev pub IsPrinted : (cols : ℕ) → Element → (known : Option Pos) → (bytes : List ℕ) → (to : Pos) → Type 0
 IsPrinted cols element.Ascii known bytes to = (from : Pos) × (known ≡ Some from) × IsAfter cols from (length bytes) to
 IsPrinted cols (element.Other c) known bytes to =
     (from : Pos) × (known ≡ Some from) × ((n : ℕ) × (columns_of c ≡ Some n) × (0 < n) × IsAfter cols from n to)
-IsPrinted cols _ known bytes to = Unit {0}
+IsPrinted cols (element.Place pos) known bytes to = ⊥
+IsPrinted cols (element.Right n) known bytes to = ⊥
+IsPrinted cols element.NextRow known bytes to = ⊥
+IsPrinted cols _ known bytes to = known ≡ Some to
+
+-- If the element is a character that is not ASCII, terminals agree on its width.
+abbrev pub IsCertainElement : Element → Type 0
+IsCertainElement (element.Other c) = is_certain c ≡ true
+IsCertainElement _ = Unit {0}
 
 -- `IsKeptFrom known changed pos` states that `known.kept` is not `None` and that, in reading order, `pos` comes at or
 -- after both `known.kept` and `changed`.

@@ -97,6 +97,22 @@ PortableEvents (event ∷ events) doubts screen =
     × PortableEvents events (doubts_after (use_of event screen) doubts (canvas_of screen))
     (screen_after_all (steps_of event (seen_of screen)) screen)
 
+-- In what terminals differ after the events.
+abbrev pub doubts_after_all : List Event → Doubts → ScreenValue → Doubts
+doubts_after_all [] doubts screen = doubts
+doubts_after_all (event ∷ events) doubts screen =
+    doubts_after_all events (doubts_after (use_of event screen) doubts (canvas_of screen))
+    (screen_after_all (steps_of event (seen_of screen)) screen)
+
+-- Terminals in ground state that differ as the doubts say, and otherwise have the given screen, agree on the effect of
+-- each element of the output.
+abbrev pub ReadsAgreed : List ℕ → Doubts → ScreenValue → Type 0
+ReadsAgreed text doubts screen = PortableEvents (run start text).events doubts screen
+
+-- In what terminals in ground state differ after they have read the output.
+abbrev pub doubts_after_output : List ℕ → Doubts → ScreenValue → Doubts
+doubts_after_output text doubts screen = doubts_after_all (run start text).events doubts screen
+
 -- While a plain terminal that displays the picture `prev`, which has the size of `self`, reads the output, no element is
 -- used in a state in which terminals disagree on its effect.
 abbrev pub IsPortable : (self prev : Picture) → List ℕ → Type 0

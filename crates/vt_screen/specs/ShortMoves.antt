@@ -2,15 +2,19 @@
 use Rattle.std.specs.Prelude.{◌≡◌, ◌≢◌, ◌⊎◌, nat_lt, ℕ, zero, suc, ◌+◌, ◌-◌, ◌*◌, ◌/◌, ◌<◌, ◌≤◌, Bool, true, false, min, if◌then◌else◌}
 use Rattle.std.specs.Prelude.{List, [], ◌∷◌, ◌++◌, length, replicate, decimal, encode_utf8, Option, Some, None}
 use Rattle.std.specs.List.{AllByRecursion}
+use Rattle.vt_redraw.specs.Doubts.{Doubts, IsPlaced, no_doubts}
 use Rattle.vt_redraw.specs.Fits.{IsDrawn}
 use Rattle.vt_redraw.specs.Picture.{Picture}
 use Rattle.vt_redraw.specs.Redraw.{redraw}
 use Rattle.vt_redraw.specs.Shifted.{IsMoving}
+use Rattle.vt_redraw.specs.declared.form.Form.{Form}
+use Rattle.vt_redraw.specs.declared.form.Form.TheVariants.{Portable}
 use Rattle.vt_cells.specs.Op.{MoveTo, MoveRight, NextRow, EraseRest, EraseChars, Hide, bytes_of, bytes_of_all, counted, csi, semicolon_list}
 use Rattle.vt_cells.specs.declared.pos.Pos.{Pos}
 use Rattle.vt_scan.specs.Automaton.{start}
 use Rattle.vt_screen.specs.Again.{KeepsPlain}
 use Rattle.vt_screen.specs.MadeOf.{IsMadeOf, shortened_controls, shortened_finals}
+use Rattle.vt_screen.specs.Portable.{ReadsAgreed, doubts_after_output}
 use Rattle.vt_screen.specs.Reading.{Terminal, terminal, terminal_after}
 use Rattle.vt_screen.specs.Screen.{ScreenValue}
 use Rattle.vt_screen.specs.Sgr.{group_read}
@@ -62,6 +66,40 @@ pub record Replaces (height width : ℕ) (known new : Option Pos) (old text : Li
   pub made : IsMadeOf shortened_finals shortened_controls text
   pub shorter : length text ≤ length old
 
+-- ---- portable output
+
+-- Terminals that differ as the doubts `now` say differ in no more than those that differ as the doubts `was` say.
+pub record IsNoWorse (was now : Doubts) : Type 0 where
+  pub wrap : now.wrap ≡ was.wrap
+  pub place : now.is_shifted ≡ was.is_shifted
+  pub follows : was.is_after_character ≡ true → now.is_after_character ≡ true
+
+-- Terminals agree on the position of the cursor, and no wrap is pending; `None` imposes no condition.
+abbrev pub IsAgreed : Option Pos → Doubts → Type 0
+IsAgreed None doubts = Unit {0}
+IsAgreed (Some pos) doubts = IsPlaced doubts
+
+-- Terminals agree on the effect of each element of the output `text`, and differ afterward in no more than after the
+-- output `old`. If `new` is not `None`, they then agree on the position of the cursor.
+pub record IsAsPortable (new : Option Pos) (old text : List ℕ) (doubts : Doubts) (screen : ScreenValue) : Type 0 where
+  pub agrees : ReadsAgreed text doubts screen
+  pub after : IsNoWorse (doubts_after_output old doubts screen) (doubts_after_output text doubts screen)
+  pub place : IsAgreed new (doubts_after_output old doubts screen)
+
+-- On every plain terminal of the given size with the cursor at `known`, the output `text` is portable if the output
+-- `old` is, as `IsAsPortable` describes.
+abbrev pub KeepsPortable : (height width : ℕ) → (known new : Option Pos) → (old text : List ℕ) → Type 0
+KeepsPortable height width known new old text =
+    (screen : ScreenValue) (doubts : Doubts) → IsPlainSized height width screen → IsAt known screen →
+    IsAgreed known doubts → ReadsAgreed old doubts screen → IsAsPortable new old text doubts screen
+
+-- After a plain terminal of the given size with the cursor at `known` has read the output, terminals agree on the
+-- position of the cursor, and no wrap is pending.
+abbrev pub Settles : (height width : ℕ) → Option Pos → List ℕ → Type 0
+Settles height width known text =
+    (screen : ScreenValue) (doubts : Doubts) → IsPlainSized height width screen → IsAt known screen →
+    IsAgreed known doubts → doubts_after_output text doubts screen ≡ no_doubts
+
 -- The screen with the cursor at the given position.
 abbrev pub with_cursor : Pos → ScreenValue → ScreenValue
 with_cursor pos screen = record screen { page = record screen.page { row = pos.row; column = pos.col } }
@@ -74,11 +112,14 @@ pub record LeadsTo (height width : ℕ) (known : Option Pos) (to : Pos) (text : 
   pub keeps : KeepsPlain text
   pub made : IsMadeOf shortened_finals shortened_controls text
 
--- The string `after` is `before` followed by output that replaces `old`, as `Replaces` describes.
-pub record AppendsReplacement (height width : ℕ) (known new : Option Pos) (old before after : List ℕ) : Type 0 where
+-- The string `after` is `before` followed by output that replaces `old`, as `Replaces` describes. In the portable form,
+-- this output is portable if `old` is.
+pub record AppendsReplacement (form : Form) (height width : ℕ) (known new : Option Pos)
+    (old before after : List ℕ) : Type 0 where
   pub text : List ℕ
   pub appends : after ≡ before ++ text
   pub replaces : Replaces height width known new old text
+  pub portable : form ≡ Portable → KeepsPortable height width known new old text
 
 -- ---- scrolling diffs
 
@@ -89,14 +130,18 @@ known_cursor screen =
     then Some (record { row = screen.page.row; col = screen.page.column })
     else None
 
--- The output is a scrolling diff, or a version of one that is not longer and has the same effect on every plain
--- terminal that displays the picture `prev`.
-pub record IsShortMoving (self prev : Picture) (text : List ℕ) : Type 0 where
-  pub plain : List ℕ
-  pub moving : IsMoving self prev plain
+-- The output `text` is not longer than the output `plain`, and has the same effect on every plain terminal that displays
+-- the picture `prev`.
+pub record IsShortened (self prev : Picture) (plain text : List ℕ) : Type 0 where
   pub same : (reader : ScreenValue) → IsReaderOf self prev reader →
       terminal_after (terminal start reader) text ≡ terminal_after (terminal start reader) plain
   pub shorter : length text ≤ length plain
+
+-- The output is a scrolling diff, or a shortened version of one.
+pub record IsShortMoving (self prev : Picture) (text : List ℕ) : Type 0 where
+  pub plain : List ℕ
+  pub moving : IsMoving self prev plain
+  pub short : IsShortened self prev plain text
 
 -- The output is a scrolling diff, as `IsShortMoving` describes, or the redraw of the picture `self`.
 abbrev pub IsMovingOrRedraw : (self prev : Picture) → List ℕ → Type 0
@@ -218,6 +263,16 @@ pub record IsRoute (width : ℕ) (route : Route) (from to : Pos) : Type 0 where
   pub row : to.row ≡ from.row + route.feeds
   pub column : to.col ≡ column_after_route width route from.col
   pub part : IsLastPart route.last
+
+-- The last part of a route from the given column contains no more BS characters than there are columns to the left.
+abbrev pub IsBackWithin : Last → ℕ → Type 0
+IsBackWithin (last.Back count) col = count ≤ col
+IsBackWithin _ col = Unit {0}
+
+-- Terminals agree on the effect of the route from the given column: it has no tabs, and each BS moves the cursor.
+pub record IsPortableRoute (route : Route) (col : ℕ) : Type 0 where
+  pub tabs : route.tabs ≡ 0
+  pub back : IsBackWithin route.last (if route.returns then 0 else col)
 
 -- The bytes of the last part of a route: BS characters, CUF, CHA, or nothing.
 abbrev pub last_text : Last → List ℕ

@@ -2,9 +2,11 @@
 //!
 //! REP (CSI `n` `b`) repeats the last printed character `n` times (ECMA-48,
 //! 8.3.103). Terminals differ in what they do if the repeated characters do not
-//! fit in the row, so a run is written with REP only if it certainly fits.
+//! fit in the row, so a run is written with REP only if it certainly fits. They
+//! also differ in whether a combining character joins a glyph that REP printed,
+//! so the last character of a run is printed itself if one may follow it.
 
-ghost use Rattle.std.specs.Prelude.{◌≡◌, ◌+◌, ◌-◌, ◌<◌, ◌≤◌, ◌++◌, ℕ, List, Some, IfOk, IfSome, IsOk, OnOk, codes, length, max, true};
+ghost use Rattle.std.specs.Prelude.{◌≡◌, ◌≢◌, ◌+◌, ◌-◌, ◌<◌, ◌≤◌, ◌++◌, ℕ, List, Some, IfOk, IfSome, IsOk, OnOk, codes, length, max, true};
 ghost use Rattle.std.proofs.Common.{IsUtf8};
 ghost use Rattle.std.specs.Prelude.{slice_index_or, string_bytes, take};
 ghost use Rattle.std.specs.Char.{encode_utf8};
@@ -19,8 +21,8 @@ ghost use Rattle.vt_scan.specs.Parameters.{table_of};
 ghost use Rattle.vt_scan.specs.Texts.{IsParameterText};
 ghost use Rattle.vt_screen.specs.MadeOf.{IsOneOf};
 ghost use Rattle.vt_screen.specs.RepeatInternals.{AppendsRepeating, BeginsRun, BeginsWithVisibility, Finds};
-ghost use Rattle.vt_screen.specs.RepeatInternals.{IsFinalAt, KeepsPieces, KeepsRoom, Skips};
-ghost use Rattle.vt_screen.specs.Repeating.{Repeats, copies, repeat_text};
+ghost use Rattle.vt_screen.specs.RepeatInternals.{IsApart, IsFinalAt, KeepsAgreed, KeepsPieces, KeepsRoom, Skips};
+ghost use Rattle.vt_screen.specs.Repeating.{IsNarrow, Repeats, copies, repeat_text};
 ghost use Rattle.vt_screen.specs.ShortMoves.{IsAsciiCharacter};
 ghost use Rattle.vt_screen.specs.TextResults.{IfText};
 
@@ -71,6 +73,7 @@ pub fn with_repeats(
 ) -> Result<String, Error>
     ensures text { IfText result (Repeats repeat cols room (string_bytes text)) }
     ensures pieces { IfText result (KeepsPieces (string_bytes text)) }
+    ensures agrees { IfText result (KeepsAgreed cols room (string_bytes text)) }
     ensures memory { OnlyOutOfMemory result }
     ensures nonempty { RefusedOnlyIfSome result (string_bytes text) }
 {
@@ -208,8 +211,8 @@ fn repeated(text: &str, repeat: Repeat, room: u16) -> Option<CharRun<'_>>
     }
     let (front, rest) = text.split_at_checked(character.len_utf8())?;
     let left = room.checked_sub(1)?;
-    let (count, back) = skip_copies(rest, character, left);
-    if count < fewest(front.len()) {
+    let (count, back) = apart_copies(rest, character, left);
+    if count == 0 || count < fewest(front.len()) {
         return None;
     }
     Some(CharRun {
@@ -253,6 +256,67 @@ fn skip_copies(text: &str, character: char, most: u16) -> (u16, &str)
         rest = tail;
     }
     (count, rest)
+}
+
+/// Counts up to `most` copies of `character`, which takes one column, at the start of `text`, but
+/// not the last one if what follows may join it. Returns their number and the text after them.
+fn apart_copies(text: &str, character: char, most: u16) -> (u16, &str)
+    requires narrow { IsNarrow character }
+    ensures most { result.0 ≤ most }
+    ensures whole { text.now ≡ copies result.0 character ++ result.1.now }
+    ensures utf8 { IsUtf8 result.1.now }
+    ensures apart { result.0 ≢ 0 → IsApart result.1.now }
+{
+    let (count, back) = skip_copies(text, character, most);
+    if count == 0 || begins_apart(back) {
+        return (count, back);
+    }
+    skip_copies(text, character, count - 1)
+}
+
+/// Returns whether `text` is known to begin with neither a combining character nor REP.
+#[tactic(auto, using(crate::proofs::PortableRepeats::empty_apart, crate::proofs::PortableRepeats::control_apart))]
+fn begins_apart(text: &str) -> bool
+    ensures { result ≡ true → IsApart text.now }
+{
+    let bytes = text.as_bytes();
+    if bytes.is_empty() {
+        return true;
+    }
+    if bytes[0] == 0x1B {
+        return begins_with_sequence(bytes);
+    }
+    if bytes[0] < 0x20 {
+        return true;
+    }
+    takes_columns(text)
+}
+
+/// Returns whether the first character of `text` is printed in columns of its own.
+fn takes_columns(text: &str) -> bool
+    ensures { result ≡ true → IsApart text.now }
+{
+    let Some((_, width)) = first_character(text) else {
+        return false;
+    };
+    width > 0
+}
+
+/// Returns whether `bytes` begins with a control sequence that has no private marker, and is not
+/// REP.
+#[tactic(auto, using(crate::proofs::PortableRepeats::sequence_apart))]
+fn begins_with_sequence(bytes: &[u8]) -> bool
+    requires nonempty { 0 < length bytes.now }
+    requires escape { slice_index_or bytes.now 0 0 ≡ 0x1B }
+    ensures { result ≡ true → IsApart bytes.now }
+{
+    if bytes.len() < 2 || bytes[1] != b'[' {
+        return false;
+    }
+    let Some(last) = final_byte_at(bytes) else {
+        return false;
+    };
+    bytes[last] >= 0x40 && bytes[last] <= 0x7E && bytes[last] != b'b'
 }
 
 /// Skips the element at the beginning of `text`: a run of characters, a control or an escape

@@ -5,6 +5,9 @@
 //! HT, BS, CUF, CHA or CUP without a column if these take fewer bytes. It replaces a short CUF with
 //! the ASCII glyphs that the terminal already displays there, if their attributes and the current
 //! attributes are the defaults. Nothing else in the output changes.
+//!
+//! In the portable form, movements begin only where terminals agree on the position of the cursor
+//! and no wrap is pending, and HT is not used. So the shorter output is portable if the output is.
 
 ghost use Rattle.std.specs.Prelude.{◌≡◌, ◌+◌, ◌++◌, ◌-◌, ◌<◌, ◌≤◌, IfOk, IfSome, IsTrue, OnOk, Some, length, ℕ, min, string_bytes};
 ghost use Rattle.vt_cells.specs.Cell.{CellValue};
@@ -12,8 +15,11 @@ ghost use Rattle.vt_cells.specs.Glyph.{columns_of};
 ghost use Rattle.vt_cells.specs.Refusals.{OnlyOutOfMemory};
 ghost use Rattle.vt_cells.specs.Op.{counted};
 ghost use Rattle.vt_redraw.specs.Refusals.{RefusedOnlyIfSome};
-ghost use Rattle.vt_screen.specs.Gaps.{AppendsInstead, AppendsUpTo, IsLetter, IsPrinted, IsShownGap, ReplacesTracked, ReplacesWhole, picture_cell};
-ghost use Rattle.vt_screen.specs.ShortMoves.{AppendsReplacement, IsAfter, IsElement, IsRoute, LeadsTo, Replaces, route_text, row_start_text};
+ghost use Rattle.vt_redraw.specs.declared.form.Form.TheVariants.{Portable};
+ghost use Rattle.vt_screen.specs.Gaps.{AppendsInstead, AppendsUpTo, IsCertainElement, IsLetter, IsPrinted, IsShownGap};
+ghost use Rattle.vt_screen.specs.Gaps.{ReplacesTracked, ReplacesWhole, picture_cell};
+ghost use Rattle.vt_screen.specs.ShortMoves.{AppendsReplacement, IsAfter, IsElement, IsPortableRoute, IsRoute, LeadsTo};
+ghost use Rattle.vt_screen.specs.ShortMoves.{Replaces, Settles, route_text, row_start_text};
 
 mod elements;
 mod gaps;
@@ -27,15 +33,16 @@ use route::{Route, digits, likely_route};
 use std::alloc::Global;
 use vt_cells::{Error, Pos, Sink, columns};
 use vt_grid::Size;
-use vt_redraw::View;
+use vt_redraw::{Form, View};
 
 /// The maximum length, in bytes, of output that is shortened. For longer output, the few bytes
 /// saved are not worth the time.
 const LONGEST: usize = 4096;
 
 /// Returns `text` with shorter cursor movements, for a plain terminal that displays `prev`. `start`
-/// is what is known about the terminal before it reads the output. Returns `None` if `text` is empty
-/// or longer than [`LONGEST`], or does not consist of elements that this module recognizes.
+/// is what is known about the terminal before it reads the output. If the output is in the portable
+/// form and is portable, the result is portable, too. Returns `None` if `text` is empty or longer
+/// than [`LONGEST`], or does not consist of elements that this module recognizes.
 ///
 /// # Errors
 ///
@@ -197,7 +204,7 @@ fn add_element(
 {
     match destination(element, size, known.at, head) {
         Some(to) => {
-            let at = add_move(short, size, known.at, to, head)?;
+            let at = add_move(short, size, known, to, head)?;
             Ok(Known { at, ..known })
         }
         None => {
@@ -214,12 +221,31 @@ fn known_after(known: Known, element: Element, size: Size, head: &str) -> Known
     requires { IsElement element head.now }
     ensures { (cells : ℕ → ℕ → CellValue) → ReplacesTracked size.rows size.cols cells known result head.now head.now }
 {
-    let at = position_after(element, size, known.at, head);
+    let at = place_after(known, element, size, head);
     Known {
+        form: known.form,
         at,
         kept: known.kept_after(element, at),
         is_default: known.is_default_after(element),
     }
+}
+
+/// Returns the position of the cursor after `element`, which is copied unchanged to the output.
+/// `head` is the text of the element. Returns `None` if the new position is unknown or, in the
+/// portable form, if terminals may disagree on it.
+#[inline(always)]
+fn place_after(known: Known, element: Element, size: Size, head: &str) -> Option<Pos>
+    requires { IsElement element head.now }
+    ensures replaces { Replaces size.rows size.cols known.at result head.now head.now }
+    ensures printed { IfSome result (IsPrinted size.cols element known.at head.now) }
+    ensures certain { known.form ≡ Portable → IfSome result (λ to. IsCertainElement element) }
+{
+    if !known.keeps_place(element) {
+        return None;
+    }
+    // Only for the proof: a named result lets the prover find the clauses of the call.
+    let at = position_after(element, size, known.at, head);
+    at
 }
 
 /// Returns the position to which an element moves the cursor from `at`. Returns `None` if the
@@ -227,6 +253,7 @@ fn known_after(known: Known, element: Element, size: Size, head: &str) -> Known
 fn destination(element: Element, size: Size, at: Option<Pos>, head: &str) -> Option<Pos>
     requires { IsElement element head.now }
     ensures leads { IfSome result (λ to. LeadsTo size.rows size.cols at to head.now) }
+    ensures settles { IfSome result (λ to. Settles size.rows size.cols at head.now) }
     ensures row { IfSome result (λ to. to.row < size.rows) }
     ensures col { IfSome result (λ to. to.col < size.cols) }
 {
@@ -349,8 +376,8 @@ fn after_characters(from: Pos, count: usize, size: Size) -> Option<Pos>
     }
 }
 
-/// Appends `head`, which moves the cursor from `at` to `to`, or a shorter movement with the same
-/// effect. Returns the new position.
+/// Appends `head`, which moves the cursor from `known.at` to `to`, or a shorter movement with the
+/// same effect. Returns the new position.
 ///
 /// # Errors
 ///
@@ -358,37 +385,39 @@ fn after_characters(from: Pos, count: usize, size: Size) -> Option<Pos>
 fn add_move(
     short: &mut String,
     size: Size,
-    at: Option<Pos>,
+    known: Known,
     to: Pos,
     head: &str,
 ) -> Result<Option<Pos>, Error>
-    requires leads { LeadsTo size.rows size.cols at to head.now }
+    requires leads { LeadsTo size.rows size.cols known.at to head.now }
+    requires settles { Settles size.rows size.cols known.at head.now }
     requires row { to.row < size.rows }
     requires col { to.col < size.cols }
-    ensures appends { IfOk result (λ after.
-        AppendsReplacement size.rows size.cols at after head.now (string_bytes short.old) (string_bytes short.new)) }
+    ensures appends { IfOk result (λ after. AppendsReplacement known.form size.rows size.cols known.at after
+        head.now (string_bytes short.old) (string_bytes short.new)) }
     ensures memory { OnlyOutOfMemory result }
 {
-    if let Some(route) = shorter_route(at, to, size.cols, head.len()) {
+    if let Some(route) = shorter_route(known, to, size.cols, head.len()) {
         route.write(short)?;
         return Ok(Some(to));
     }
-    add_place(short, size, at, to, head)?;
+    add_place(short, size, known, to, head)?;
     Ok(Some(to))
 }
 
-/// Returns a route from `at` to `to` on a terminal with `cols` columns that takes fewer than `len`
-/// bytes, and no more than CUP without a column if that leads to `to`. Returns `None` if no such
-/// route is known.
-fn shorter_route(at: Option<Pos>, to: Pos, cols: u16, len: usize) -> Option<Route>
-    ensures leads { IfSome result (λ route. (from : Pos) × (at ≡ Some from) × IsRoute cols route from to) }
+/// Returns a route from `known.at` to `to` on a terminal with `cols` columns that takes fewer than
+/// `len` bytes, and no more than CUP without a column if that leads to `to`. Returns `None` if no
+/// such route is known.
+fn shorter_route(known: Known, to: Pos, cols: u16, len: usize) -> Option<Route>
+    ensures leads { IfSome result (λ route. (from : Pos) × (known.at ≡ Some from) × IsRoute cols route from to
+        × (known.form ≡ Portable → IsPortableRoute route from.col)) }
     ensures shorter { IfSome result (λ route. length (route_text route) < len) }
 {
-    let from = at?;
-    let route = likely_route(from, to, cols, len)?;
+    let from = known.at?;
+    let route = likely_route(known.form, from, to, cols, len)?;
     let bytes = route.len();
     let is_short = bytes < len && (to.col > 0 || bytes <= row_start_len(to.row));
-    if is_short && route.leads(from, to, cols) {
+    if is_short && route.is_allowed(known.form, from.col) && route.leads(from, to, cols) {
         Some(route)
     } else {
         None
@@ -405,23 +434,18 @@ fn row_start_len(row: u16) -> usize
     3 + digits(u32::from(row) + 1)
 }
 
-/// Appends `head`, which moves the cursor from `at` to `to`. If `to` is in the first column and CUP
-/// without a column is shorter, appends that instead.
+/// Appends `head`, which moves the cursor from `known.at` to `to`. If `to` is in the first column and
+/// CUP without a column is shorter, appends that instead.
 ///
 /// # Errors
 ///
 /// Returns `Error::OutOfMemory` if the string cannot grow.
-fn add_place(
-    short: &mut String,
-    size: Size,
-    at: Option<Pos>,
-    to: Pos,
-    head: &str,
-) -> Result<(), Error>
-    requires leads { LeadsTo size.rows size.cols at to head.now }
+fn add_place(short: &mut String, size: Size, known: Known, to: Pos, head: &str) -> Result<(), Error>
+    requires leads { LeadsTo size.rows size.cols known.at to head.now }
+    requires settles { Settles size.rows size.cols known.at head.now }
     requires row { to.row < size.rows }
     requires col { to.col < size.cols }
-    ensures appends { OnOk result (AppendsReplacement size.rows size.cols at (Some to)
+    ensures appends { OnOk result (AppendsReplacement known.form size.rows size.cols known.at (Some to)
         head.now (string_bytes short.old) (string_bytes short.new)) }
     ensures memory { OnlyOutOfMemory result }
 {

@@ -1,6 +1,6 @@
 //! Diffs with options.
 
-ghost use Rattle.std.specs.Prelude.{◌≡◌, ◌≤◌, [], IsOk, false, IsTrue, length, string_bytes};
+ghost use Rattle.std.specs.Prelude.{◌≡◌, ◌≤◌, ◌-◌, [], IsOk, true, false, IsTrue, length, string_bytes};
 ghost use Rattle.vt_cells.specs.Refusals.{OnlyOutOfMemory};
 ghost use Rattle.vt_grid.specs.Page.{SameSize};
 ghost use Rattle.vt_redraw.specs.Refusals.{RefusedOnlyIfSome};
@@ -10,10 +10,9 @@ ghost use Rattle.vt_screen.specs.Diffs.{diff_controls, finals_with, form_with, m
 ghost use Rattle.vt_redraw.specs.declared.form.Form.TheVariants.{Fixed, Portable};
 ghost use Rattle.vt_screen.specs.MadeOf.{IsMadeOf};
 ghost use Rattle.vt_screen.specs.Portable.{IsPortableFrom};
-ghost use Rattle.vt_screen.specs.RepeatInternals.{KeepsPieces};
+ghost use Rattle.vt_screen.specs.RepeatInternals.{KeepsAgreed, KeepsPieces};
 ghost use Rattle.vt_screen.specs.Shown.{IsSameIfEmpty, RedrawsFrom, display, display_change, display_change_in, shown_text};
 ghost use Rattle.vt_screen.specs.TextResults.{IfText};
-ghost use Rattle.vt_screen.specs.declared.repeat.Repeat.TheVariants.{Never};
 
 use crate::diff_options::DiffOptions;
 use crate::repeat::Repeat;
@@ -35,9 +34,10 @@ impl Screen {
     /// output is that of `contents_diff` or, with `scroll`, of `contents_diff_scrolling`.
     ///
     /// With `portable`, the output avoids sequences on whose effects terminals disagree, as that of
-    /// [`Screen::contents_formatted_with`] does, and moves no rows or columns. If this screen is
-    /// steady and `repeat` is `Repeat::Never`, terminals that display `prev` agree on the effect of
-    /// each sequence of the output (clause `portable`).
+    /// [`Screen::contents_formatted_with`] does, and moves no rows or columns. With `scroll`, it
+    /// moves the cursor with LF, CR, BS or CHA if that is shorter, but not with HT, since tab stops
+    /// may be cleared. If this screen is steady, terminals that display `prev` agree on the effect
+    /// of each sequence of the output (clause `portable`).
     ///
     /// The output contains only controls that draw and, if `repeat` allows any character, REP
     /// (clause `controls`).
@@ -72,17 +72,16 @@ impl Screen {
         requires { SameSize self.now.page prev.now.page }
         ensures text { IfText result (IsDiffWith options prev.now self.now) }
         ensures controls { IfText result
-            (IsMadeOf (finals_with options.repeat (may_move options)) (diff_controls (may_move options))) }
+            (IsMadeOf (finals_with options.repeat options.scroll) (diff_controls options.scroll)) }
         ensures rows { IfText result (RepeatsOnlyInRows prev.now self.now) }
         ensures again { IfText result KeepsScreensPlain }
         ensures shorter { IfText result
             (λ text. length text ≤ length (display_change_in (form_with options) prev.now self.now)) }
         ensures redraw { IsTrue (may_move options) → IfText result (λ text. length text ≤ length (shown_text self.now)) }
         ensures redraws { IfText result (RedrawsFrom prev.now self.now) }
-        ensures portable { IfText result (λ text.
-            IsTrue options.portable → options.repeat ≡ Never → IsPortableFrom prev.now self.now text) }
         ensures empty { IfText result (IsSameIfEmpty prev.now self.now) }
         ensures none { IfText result (λ text. display self.now ≡ display prev.now → text ≡ []) }
+        ensures portable { IsTrue options.portable → IfText result (IsPortableFrom prev.now self.now) }
         ensures memory { OnlyOutOfMemory result }
         ensures nonempty { RefusedOnlyIfSome result (display_change_in (form_with options) prev.now self.now) }
         ensures never { display self.now ≡ display prev.now → IsOk result }
@@ -99,15 +98,17 @@ impl Screen {
     /// Returns `Error::OutOfMemory` if the output cannot be allocated.
     fn plain_diff(&self, prev: &Screen, options: DiffOptions) -> Result<String, Error>
         requires { SameSize self.now.page prev.now.page }
-        ensures text { IfText result (IsPlainDiff (form_with options) (may_move options) prev.now self.now) }
-        ensures portable { IfText result (λ text. IsTrue options.portable → IsPortableFrom prev.now self.now text) }
+        ensures text { IfText result (IsPlainDiff (form_with options) options.scroll prev.now self.now) }
         ensures memory { OnlyOutOfMemory result }
         ensures nonempty { RefusedOnlyIfSome result (display_change_in (form_with options) prev.now self.now) }
     {
-        if options.portable {
-            return self.portable_diff(prev);
+        if !options.portable {
+            return self.diff_without_repeats(prev, options.scroll);
         }
-        self.diff_without_repeats(prev, options.scroll)
+        if options.scroll {
+            return self.short_portable_diff(prev);
+        }
+        self.portable_diff(prev)
     }
 
     /// Returns the portable form of the ordinary diff.
@@ -118,7 +119,6 @@ impl Screen {
     fn portable_diff(&self, prev: &Screen) -> Result<String, Error>
         requires { SameSize self.now.page prev.now.page }
         ensures text { IfText result (IsPlainDiff Portable false prev.now self.now) }
-        ensures portable { IfText result (IsPortableFrom prev.now self.now) }
         ensures memory { OnlyOutOfMemory result }
         ensures nonempty { RefusedOnlyIfSome result (display_change_in Portable prev.now self.now) }
     {
@@ -127,6 +127,25 @@ impl Screen {
             Ok(()) => Ok(text),
             Err(_) => Err(Error::OutOfMemory),
         }
+    }
+
+    /// Returns the portable form of the ordinary diff, or shorter portable output that has the same
+    /// effect but moves the cursor differently.
+    ///
+    /// # Errors
+    ///
+    /// Returns `Error::OutOfMemory` if the output, or output that it is compared with, cannot be
+    /// allocated.
+    fn short_portable_diff(&self, prev: &Screen) -> Result<String, Error>
+        requires { SameSize self.now.page prev.now.page }
+        ensures text { IfText result (IsPlainDiff Portable true prev.now self.now) }
+        ensures memory { OnlyOutOfMemory result }
+        ensures nonempty { RefusedOnlyIfSome result (display_change_in Portable prev.now self.now) }
+    {
+        let text = self.portable_diff(prev)?;
+        // Only for the proof: a named result lets the prover find the clauses of the call.
+        let short = prev.with_short_moves(text, Form::Portable)?;
+        Ok(short)
     }
 
     /// Returns the output that turns the display of `prev` into that of this screen: the scrolling
@@ -165,6 +184,8 @@ impl Screen {
     ) -> Result<String, Error>
         ensures text { IfText result (MayRepeat repeat prev.now (string_bytes plain)) }
         ensures pieces { IfText result (KeepsPieces (string_bytes plain)) }
+        ensures agrees { IfText result
+            (KeepsAgreed prev.now.page.width (prev.now.page.width - prev.now.page.column) (string_bytes plain)) }
         ensures memory { OnlyOutOfMemory result }
         ensures nonempty { RefusedOnlyIfSome result (string_bytes plain) }
     {

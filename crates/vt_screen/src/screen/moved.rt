@@ -27,7 +27,7 @@ use vt_cells::{Attrs, Error, Pos, Sink};
 use vt_grid::Grid;
 use vt_redraw::pen::write_change;
 use vt_redraw::{
-    Band, DrawnRows, Move, RowShift, View, likely_move, write_contents_diff,
+    Band, DrawnRows, Form, Move, RowShift, View, likely_move, write_contents_diff,
     write_contents_diff_watched, write_contents_formatted_within, write_moves, write_row_shifts,
 };
 
@@ -144,7 +144,7 @@ impl Screen {
         let text = self.watched_diff(prev, &mut drawn)?;
         let moving = self.shortened(prev, text, &drawn)?;
         // Only for the proof: a named result lets the prover find the clauses of the call.
-        let short = prev.with_short_moves(moving)?;
+        let short = prev.with_short_moves(moving, Form::Fixed)?;
         Ok(short)
     }
 
@@ -167,18 +167,19 @@ impl Screen {
         }
     }
 
-    /// Returns `text`, which is output for a terminal that displays this screen, or shorter output
-    /// that has the same effect but moves the cursor differently.
+    /// Returns `text`, which is output in the given form for a terminal that displays this screen, or
+    /// shorter output that has the same effect but moves the cursor differently.
     ///
     /// # Errors
     ///
     /// Returns `Error::OutOfMemory` if the alternative output cannot be allocated.
-    fn with_short_moves(&self, text: String) -> Result<String, Error>
-        ensures text { IfText result (IsShortVersion self.now (string_bytes text)) }
+    pub(crate) fn with_short_moves(&self, text: String, form: Form) -> Result<String, Error>
+        ensures text { IfText result (IsShortVersion form self.now (string_bytes text)) }
         ensures memory { OnlyOutOfMemory result }
         ensures nonempty { RefusedOnlyIfSome result (string_bytes text) }
     {
         let start = Known {
+            form,
             at: self.known_cursor(),
             kept: Some(Pos { row: 0, col: 0 }),
             is_default: self.attrs().is_same(&Attrs::new()),

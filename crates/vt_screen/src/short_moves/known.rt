@@ -1,16 +1,23 @@
 //! The facts that are known about a terminal while it reads drawing output.
 
-ghost use Rattle.std.specs.Prelude.{IfSome, IsTrue};
-ghost use Rattle.vt_screen.specs.Gaps.{IsDefaultAfter, IsKeptAfter, IsKeptFrom, IsLater};
+ghost use Rattle.std.specs.Prelude.{◌≡◌, IfSome, IsTrue};
+ghost use Rattle.vt_redraw.specs.declared.form.Form.TheVariants.{Portable};
+ghost use Rattle.vt_screen.specs.Gaps.{IsCertainElement, IsDefaultAfter, IsKeptAfter, IsKeptFrom, IsLater};
 
 use crate::short_moves::elements::Element;
 use vt_cells::Pos;
+use vt_redraw::Form;
+use vt_redraw::certain::is_certain;
 
 /// What is known about a terminal that displayed a certain picture (the display of a screen) and
 /// has since read drawing output.
 #[derive(Clone, Copy, PartialEq, Eq, Debug)]
 pub struct Known {
-    /// The position of the cursor. `None` if it is unknown or a wrap is pending.
+    /// The form of the output.
+    pub form: Form,
+
+    /// The position of the cursor. `None` if it is unknown or a wrap is pending, and in the
+    /// portable form also if terminals may disagree on it.
     pub at: Option<Pos>,
 
     /// A position such that the terminal still displays all narrow glyphs of the picture that are
@@ -71,6 +78,18 @@ impl Known {
         Some(later(kept, changed))
     }
 
+    /// Returns whether the position of the cursor remains known when `element` is copied unchanged.
+    /// In the portable form, terminals must agree on the width of the character that it prints.
+    #[inline(always)]
+    pub fn keeps_place(self, element: Element) -> bool
+        ensures { IsTrue result → self.form ≡ Portable → IsCertainElement element }
+    {
+        match self.form {
+            Form::Fixed => true,
+            Form::Portable => is_certain_element(element),
+        }
+    }
+
     /// Returns whether the attributes are known to be the defaults after the terminal has read
     /// `element`, which is copied to the output unchanged.
     #[inline(always)]
@@ -82,6 +101,17 @@ impl Known {
             Element::Attrs => false,
             _ => self.is_default,
         }
+    }
+}
+
+/// Returns whether terminals agree on the width of the character that `element` prints, or whether
+/// it prints none.
+fn is_certain_element(element: Element) -> bool
+    ensures { IsTrue result → IsCertainElement element }
+{
+    match element {
+        Element::Other(c) => is_certain(c),
+        _ => true,
     }
 }
 

@@ -2,10 +2,12 @@
 
 ghost use Rattle.std.specs.Prelude.{◌≡◌, ◌++◌, ◌∷◌, ◌≤◌, ℕ, [], IfSome, OnOk, IsTrue, decimal, length, replicate, string_bytes};
 ghost use Rattle.vt_cells.specs.Refusals.{OnlyOutOfMemory};
-ghost use Rattle.vt_screen.specs.ShortMoves.{IsLast, IsRoute, column_after_tabs, last_text, next_stop, route_text};
+ghost use Rattle.vt_redraw.specs.declared.form.Form.TheVariants.{Portable};
+ghost use Rattle.vt_screen.specs.ShortMoves.{IsBackWithin, IsLast, IsPortableRoute, IsRoute, column_after_tabs, last_text, next_stop, route_text};
 
 use vt_cells::term::{BufWrite, MoveRight};
 use vt_cells::{Error, Pos, Sink};
+use vt_redraw::Form;
 
 /// The last part of a [`Route`]: the cursor movement after its tabs.
 #[derive(Clone, Copy, PartialEq, Eq, Debug)]
@@ -66,6 +68,27 @@ impl Route {
         self.last.column_after(stop, cols) == Some(to.col)
     }
 
+    /// Returns whether the route may be used in output of the given form, starting in column `col`.
+    #[inline]
+    pub fn is_allowed(&self, form: Form, col: u16) -> bool
+        ensures { IsTrue result → form ≡ Portable → IsPortableRoute self.now col }
+    {
+        match form {
+            Form::Fixed => true,
+            Form::Portable => self.is_portable(col),
+        }
+    }
+
+    /// Returns whether terminals agree on the effect of the route, starting in column `col`: it has
+    /// no tabs, which may be cleared, and no BS in the first column, from which some terminals move
+    /// to the row above.
+    fn is_portable(&self, col: u16) -> bool
+        ensures { IsTrue result → IsPortableRoute self.now col }
+    {
+        let start = if self.returns { 0 } else { col };
+        self.tabs == 0 && self.last.is_back_within(start)
+    }
+
     /// Returns the number of bytes that the route takes in the output.
     #[tactic(auto, using(crate::proofs::RouteLengths::route_length))]
     pub fn len(&self) -> usize
@@ -111,6 +134,16 @@ impl Last {
             Last::Right(count) => Some(col.saturating_add(count).min(cols - 1)),
             Last::Column(target) if target < cols => Some(target),
             Last::Column(_) => None,
+        }
+    }
+
+    /// Returns whether each BS of this part of a route moves the cursor, starting in column `col`.
+    fn is_back_within(self, col: u16) -> bool
+        ensures { IsTrue result → IsBackWithin self col }
+    {
+        match self {
+            Last::Back(count) => count <= col,
+            _ => true,
         }
     }
 
@@ -162,13 +195,17 @@ impl Way {
     }
 
     /// Returns the way to column `col`, to the right of column `start`, whose output is probably the
-    /// shortest on a terminal with `cols` columns. `start` must not be to the right of `col`.
+    /// shortest on a terminal with `cols` columns. `start` must not be to the right of `col`. In the
+    /// portable form, the way has no tabs.
     #[inline]
-    fn forward(start: u16, col: u16, cols: u16) -> Self {
+    fn forward(form: Form, start: u16, col: u16, cols: u16) -> Self {
         if col <= start {
             return Way::new(0, Last::Stay);
         }
         let right = Way::new(0, Last::Right(col - start));
+        if form == Form::Portable {
+            return right;
+        }
         let tabs = (col / 8).saturating_sub(start / 8);
         let back = next_stop(col, cols).saturating_sub(col);
         let past = Way::new(tabs.saturating_add(1), Last::Back(back));
@@ -263,20 +300,20 @@ fn column_after_tabs(col: u16, count: u16, cols: u16) -> u16
     stop
 }
 
-/// Returns the route from `from` to `to` whose output is probably the shortest on a terminal with
-/// `cols` columns. Returns `None` if `to` is in a row above `from`, or if no route is likely to take
-/// fewer than `len` bytes.
-pub fn likely_route(from: Pos, to: Pos, cols: u16, len: usize) -> Option<Route> {
+/// Returns the route from `from` to `to`, in output of the given form, whose output is probably the
+/// shortest on a terminal with `cols` columns. Returns `None` if `to` is in a row above `from`, or if
+/// no route is likely to take fewer than `len` bytes.
+pub fn likely_route(form: Form, from: Pos, to: Pos, cols: u16, len: usize) -> Option<Route> {
     let feeds = to.row.checked_sub(from.row)?;
     // Every route takes at least this many bytes. This test alone rejects most movements.
     if usize::from(feeds) + usize::from(to.col != from.col) >= len {
         return None;
     }
-    let returned = Way::forward(0, to.col, cols);
+    let returned = Way::forward(form, 0, to.col, cols);
     let direct = if to.col < from.col {
         Way::new(0, Last::Back(from.col - to.col)).or(Way::new(0, Last::Column(to.col)))
     } else {
-        Way::forward(from.col, to.col, cols)
+        Way::forward(form, from.col, to.col, cols)
     };
     let returns = returned.cost < direct.cost;
     let way = if returns { returned } else { direct };

@@ -1,3 +1,4 @@
+use Rattle.vt_screen.proofs.PortableRepeats.{agreed_itself}
 use Rattle.vt_screen.proofs.Repeated.{pieces_kept, repeats_itself}
 use Rattle.vt_screen.proofs.repeats.with_repeats.Goals as goal
 
@@ -12,3 +13,9 @@ returns-then-eq-clause-pieces c = pieces_kept _
 
 pub returns-in-Ok-false-clause-pieces : goal.returns-in-Ok-false-clause-pieces
 returns-in-Ok-false-clause-pieces c = pieces_kept _
+
+pub returns-then-eq-clause-agrees : goal.returns-then-eq-clause-agrees
+returns-then-eq-clause-agrees c = agreed_itself c.args.cols c.args.room _
+
+pub returns-in-Ok-false-clause-agrees : goal.returns-in-Ok-false-clause-agrees
+returns-in-Ok-false-clause-agrees c = agreed_itself c.args.cols c.args.room _

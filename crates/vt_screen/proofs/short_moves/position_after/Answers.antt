@@ -51,4 +51,3 @@ returns-in-Some-at-clause-printed c =
 pub returns-in_default-clause-printed : goal.returns-in_default-clause-printed
 returns-in_default-clause-printed c =
     printed_still c.args.size.cols c.args.at c.args.element c.args.head.now (sym c.is_still.ensures ∙ c.if-is_still.true)
-    c.args.at

@@ -1,11 +1,10 @@
-use Rattle.std.proofs.Common.{◌≡◌, string_bytes, subst, sym}
+use Rattle.std.proofs.Common.{string_bytes, refl}
 use Rattle.vt_screen.specs.Shown.{display}
 use Rattle.vt_screen.proofs.ContentTexts.{none_refused}
-use Rattle.vt_screen.specs.Diffs.{MayRepeat, form_with, may_move}
-use Rattle.vt_screen.specs.Portable.{IsPortableFrom}
-use Rattle.vt_screen.specs.declared.repeat.Repeat.{Repeat}
+use Rattle.vt_screen.specs.Diffs.{form_with}
 use Rattle.vt_screen.proofs.Forms.{difference_none_in}
 use Rattle.vt_screen.proofs.RepeatedDiffs.{diff_again, diff_empty, diff_made, diff_none, diff_redraw, diff_redraws, diff_rows}
+use Rattle.vt_screen.proofs.RepeatedDiffs.{diff_portable, moving_fixed}
 use Rattle.vt_screen.proofs.screen.Screen.contents_diff_with.Goals as goal
 
 pub returns-clause-text : goal.returns-clause-text
@@ -24,43 +23,43 @@ returns-in_err-plain-clause-never c same =
 
 pub returns-clause-rows : goal.returns-clause-rows
 returns-clause-rows c =
-    diff_rows c.args.options.repeat (form_with c.args.options) (may_move c.args.options) c.args.prev.now c.args.self.now (string_bytes c.in_ok-plain.plain)
+    diff_rows c.args.options.repeat (form_with c.args.options) c.args.options.scroll c.args.prev.now c.args.self.now (string_bytes c.in_ok-plain.plain)
     (string_bytes c.in_ok-text.text) c.in_ok-plain.ensures.text c.in_ok-text.ensures.text
 
 pub returns-clause-again : goal.returns-clause-again
 returns-clause-again c =
-    diff_again c.args.options.repeat (form_with c.args.options) (may_move c.args.options) c.args.prev.now c.args.self.now (string_bytes c.in_ok-plain.plain)
+    diff_again c.args.options.repeat (form_with c.args.options) c.args.options.scroll c.args.prev.now c.args.self.now (string_bytes c.in_ok-plain.plain)
     (string_bytes c.in_ok-text.text) c.in_ok-plain.ensures.text c.in_ok-text.ensures.text
 
 pub returns-clause-redraws : goal.returns-clause-redraws
 returns-clause-redraws c =
-    diff_redraws c.args.options.repeat (form_with c.args.options) (may_move c.args.options) c.args.prev.now c.args.self.now (string_bytes c.in_ok-plain.plain)
+    diff_redraws c.args.options.repeat (form_with c.args.options) c.args.options.scroll c.args.prev.now c.args.self.now (string_bytes c.in_ok-plain.plain)
     (string_bytes c.in_ok-text.text) c.in_ok-plain.ensures.text c.in_ok-text.ensures.text
 
 pub returns-clause-empty : goal.returns-clause-empty
 returns-clause-empty c =
-    diff_empty c.args.options.repeat (form_with c.args.options) (may_move c.args.options) c.args.prev.now c.args.self.now (string_bytes c.in_ok-plain.plain)
+    diff_empty c.args.options.repeat (form_with c.args.options) c.args.options.scroll c.args.prev.now c.args.self.now (string_bytes c.in_ok-plain.plain)
     (string_bytes c.in_ok-text.text) c.in_ok-plain.ensures.text c.in_ok-text.ensures.text
 
 pub returns-clause-none : goal.returns-clause-none
 returns-clause-none c =
-    diff_none c.args.options.repeat (form_with c.args.options) (may_move c.args.options) c.args.prev.now c.args.self.now (string_bytes c.in_ok-plain.plain)
+    diff_none c.args.options.repeat (form_with c.args.options) c.args.options.scroll c.args.prev.now c.args.self.now (string_bytes c.in_ok-plain.plain)
     (string_bytes c.in_ok-text.text) c.in_ok-plain.ensures.text c.in_ok-text.ensures.text
 
 pub returns-clause-redraw : goal.returns-clause-redraw
-returns-clause-redraw c scrolls =
-    diff_redraw c.args.options.repeat (form_with c.args.options) (may_move c.args.options) c.args.prev.now c.args.self.now (string_bytes c.in_ok-plain.plain)
-    (string_bytes c.in_ok-text.text) c.in_ok-plain.ensures.text c.in_ok-text.ensures.text scrolls
+returns-clause-redraw c moves =
+    diff_redraw c.args.options.repeat (form_with c.args.options) c.args.options.scroll c.args.prev.now c.args.self.now (string_bytes c.in_ok-plain.plain)
+    (string_bytes c.in_ok-text.text) c.in_ok-plain.ensures.text c.in_ok-text.ensures.text
+    (moving_fixed c.args.options.portable c.args.options.scroll moves).0
+    (moving_fixed c.args.options.portable c.args.options.scroll moves).1
 
 pub returns-clause-controls : goal.returns-clause-controls
 returns-clause-controls c =
-    diff_made c.args.options.repeat (form_with c.args.options) (may_move c.args.options) c.args.prev.now c.args.self.now (string_bytes c.in_ok-plain.plain)
+    diff_made c.args.options.repeat (form_with c.args.options) c.args.options.scroll c.args.prev.now c.args.self.now (string_bytes c.in_ok-plain.plain)
     (string_bytes c.in_ok-text.text) c.in_ok-plain.ensures.text c.in_ok-text.ensures.text c.in_ok-text.ensures.pieces
 
 pub returns-clause-portable : goal.returns-clause-portable
-returns-clause-portable c portable never =
-    let plain = string_bytes c.in_ok-plain.plain in
-    let text = string_bytes c.in_ok-text.text in
-    let same : text ≡ plain =
-    subst (λ (repeat : Repeat). MayRepeat repeat c.args.prev.now plain text) never c.in_ok-text.ensures.text in
-    subst (IsPortableFrom c.args.prev.now c.args.self.now) (sym same) (c.in_ok-plain.ensures.portable portable)
+returns-clause-portable c portable =
+    diff_portable c.args.options.portable (form_with c.args.options) c.args.options.scroll c.args.prev.now c.args.self.now
+    (string_bytes c.in_ok-plain.plain) (string_bytes c.in_ok-text.text) c.in_ok-plain.ensures.text
+    c.in_ok-text.ensures.agrees refl portable

@@ -2,12 +2,12 @@ use Rattle.std.proofs.Common.{◌≡◌, ℕ, List, ◌++◌, length, string_byt
 use Rattle.vt_redraw.specs.declared.form.Form.TheVariants.{Portable}
 use Rattle.vt_screen.specs.Again.{KeepsPlain}
 use Rattle.vt_screen.specs.MadeOf.{IsMadeOf, drawing_finals, drawing_controls}
+use Rattle.vt_screen.specs.Portable.{IsPortableFrom}
 use Rattle.vt_screen.specs.Shown.{display, display_change_in}
 use Rattle.vt_screen.proofs.Forms.{difference_keeps_in, difference_made_in, difference_none_in, difference_redraws_in}
 use Rattle.vt_screen.proofs.Forms.{difference_tells_in}
 use Rattle.vt_screen.proofs.PortableOutputs.{difference_is_portable}
 use Rattle.vt_screen.proofs.Viewing.{same_shown}
-use Rattle.vt_screen.specs.Portable.{IsPortableFrom}
 use Rattle.vt_screen.proofs.screen.Screen.portable_diff.Goals as goal
 
 pub returns-in-Ok-clause-text : goal.returns-in-Ok-clause-text
@@ -27,22 +27,12 @@ returns-in-Ok-clause-text c =
       again = subst KeepsPlain (sym told)
           (difference_keeps_in Portable self prev written.whole written.colored written.other written.other_colored);
       shorter = omega (arith, long);
-      redraw = λ scrolls. absurd (cc);
+      redraw = λ fixed scrolls. absurd (cc);
       redraws = difference_redraws_in Portable self prev text told written.whole written.colored written.other
           written.other_colored size;
       empty = λ steady empty. difference_tells_in Portable self prev written.whole written.colored steady written.other
           written.other_colored size (sym told ∙ empty);
       none = λ same. told ∙ difference_none_in Portable (display self) (display prev) same;
+      portable = λ form. subst (IsPortableFrom prev self) (sym told)
+          (difference_is_portable self prev written.whole written.colored written.other written.other_colored size);
     }
-
-pub returns-in-Ok-clause-portable : goal.returns-in-Ok-clause-portable
-returns-in-Ok-clause-portable c =
-    let self = c.args.self.now in
-    let prev = c.args.prev.now in
-    let written = c.in-Ok.ensures in
-    let bytes = display_change_in Portable prev self in
-    let text = string_bytes c.write_contents_diff_in.new.sink in
-    let told : text ≡ bytes = written.text ∙ ap (λ (before : List ℕ). before ++ bytes) c.new-text.ensures.bytes in
-    subst (IsPortableFrom prev self) (sym told)
-    (difference_is_portable self prev written.whole written.colored written.other written.other_colored
-    (same_shown self prev c.requires))
