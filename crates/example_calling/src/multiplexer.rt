@@ -2,7 +2,17 @@
 
 use anyhow::Result;
 use std::io::Write;
-use vt100::{Error, Screen};
+use vt100::{DiffOptions, Error, RedrawOptions, Repeat, Screen};
+
+/// The options of redraws. Portable output avoids sequences on whose effects terminals disagree.
+const REDRAW: RedrawOptions = RedrawOptions { portable: true };
+
+/// The options of diffs: portable ones, with short cursor movements.
+const DIFF: DiffOptions = DiffOptions {
+    scroll: true,
+    repeat: Repeat::Never,
+    portable: true,
+};
 
 /// A client, and the screen that its terminal displays.
 #[derive(Drop)]
@@ -20,7 +30,7 @@ impl Client {
     pub fn update<W: Write>(&mut self, screen: &Screen, writer: &mut W) -> Result<()> {
         let text = match &self.seen {
             Some(seen) => text_from(screen, seen)?,
-            None => screen.contents_formatted()?,
+            None => screen.contents_formatted_with(REDRAW)?,
         };
         let seen = screen.shown_copy()?;
         writer.write_all(text.as_bytes())?;
@@ -34,8 +44,8 @@ impl Client {
 /// sizes differ.
 fn text_from(screen: &Screen, seen: &Screen) -> Result<String, Error> {
     if screen.is_sized_as(seen) {
-        screen.contents_diff_scrolling(seen)
+        screen.contents_diff_with(seen, DIFF)
     } else {
-        screen.contents_formatted()
+        screen.contents_formatted_with(REDRAW)
     }
 }

@@ -1,6 +1,9 @@
 //! `example_updates ROWS COLS EVERY`: reads what a program writes to its terminal, and writes the
 //! escape sequences that keep a second terminal of the same size up to date: first a redraw, and
 //! then a diff after each chunk of at most EVERY bytes.
+//!
+//! The output may go to any real terminal, so it is portable: it avoids sequences on whose effects
+//! terminals disagree.
 #![tactic(auto)]
 
 use anyhow::Result;
@@ -9,7 +12,17 @@ use std::env;
 use std::io::{self, ErrorKind, Read, Write};
 use std::num::NonZeroU16;
 use std::process::ExitCode;
-use vt100::Parser;
+use vt100::{DiffOptions, Parser, RedrawOptions, Repeat};
+
+/// The options of redraws.
+const REDRAW: RedrawOptions = RedrawOptions { portable: true };
+
+/// The options of diffs.
+const DIFF: DiffOptions = DiffOptions {
+    scroll: true,
+    repeat: Repeat::Never,
+    portable: true,
+};
 
 /// The settings that the command-line arguments specify.
 #[derive(Clone, Copy)]
@@ -41,9 +54,9 @@ fn update<W: Write>(parser: &mut Parser, writer: &mut W, piece: &[u8]) -> io::Re
     parser.process(piece)?;
     let screen = parser.screen();
     let update = if screen.is_sized_as(&before) {
-        screen.contents_diff(&before)?
+        screen.contents_diff_with(&before, DIFF)?
     } else {
-        screen.contents_formatted()?
+        screen.contents_formatted_with(REDRAW)?
     };
     writer.write_all(update.as_bytes())?;
     writer.flush()
@@ -57,7 +70,8 @@ fn run<R: Read, W: Write>(
     settings: Settings,
 ) -> io::Result<()> {
     let mut parser = Parser::new(alloc, settings.rows, settings.cols, 0)?;
-    writer.write_all(parser.screen().contents_formatted()?.as_bytes())?;
+    let redraw = parser.screen().contents_formatted_with(REDRAW)?;
+    writer.write_all(redraw.as_bytes())?;
     let mut buffer = vec![in alloc; 0u8; usize::from(settings.every.get())]?;
     for _ in 0..u64::MAX {
         let count = reader.read(&mut buffer)?;
