@@ -63,28 +63,3 @@ fn viewers_share_updates(rt: HostRuntime) -> Result<(), Fail> {
     }
     Ok(())
 }
-
-#[test]
-fn a_viewer_that_is_too_far_behind_gets_a_redraw(rt: HostRuntime) -> Result<(), Fail> {
-    let (rows, cols) = size((2, 8))?;
-    let window = Window::new(rt.alloc());
-    let mut parser = Parser::new_with_callbacks(rt.alloc(), rows, cols, 0, window)?;
-    let mut cohort = Cohort::new(rt.alloc(), parser.screen())?;
-    for number in 1..=65 {
-        cohort.advance(parser.screen())?;
-        if cohort.update() != Some("") {
-            return Err(Fail::new(format_args!("version {number} has an update")));
-        }
-    }
-    // 64 updates are kept, all of which are empty.
-    expect_updates(&cohort.message(Some(1))?, "")?;
-    expect_redraw(&cohort.message(Some(0))?, "\x1b>\x1b[?1l\x1b[?2004l")?;
-    let (rows, cols) = size((3, 8))?;
-    parser.set_size(rows, cols)?;
-    advance(&mut cohort, &parser, (66, None))?;
-    expect_redraw(&cohort.message(Some(65))?, "\x1b>\x1b[?1l\x1b[?2004l")?;
-    read(&mut parser, b"c")?;
-    advance(&mut cohort, &parser, (67, Some("c")))?;
-    expect_updates(&cohort.message(Some(66))?, "c")?;
-    expect_redraw(&cohort.message(Some(65))?, "c\x1b>\x1b[?1l\x1b[?2004l")
-}
