@@ -10,10 +10,11 @@ use Rattle.vt_cells.specs.Op.{Op}
 use Rattle.vt_cells.proofs.Same.{same_attrs-itself, same_bool-itself}
 use Rattle.vt_rows.specs.Row.{RowValue}
 use Rattle.vt_grid.specs.Canvas.{Canvas, drawn_all}
-use Rattle.vt_grid.specs.Page.{IsPlainPage}
+use Rattle.vt_grid.specs.Page.{IsPlainPage, row_or}
+use Rattle.vt_redraw.specs.Doubts.{ends_uncertain, is_past_uncertain}
 use Rattle.vt_redraw.specs.Script.{attr_ops_in, move_ops}
 use Rattle.vt_redraw.specs.declared.form.Form.{Form}
-use Rattle.vt_redraw.specs.declared.form.Form.TheVariants.{Fixed}
+use Rattle.vt_redraw.specs.declared.form.Form.TheVariants.{Fixed, Portable}
 use Rattle.vt_redraw.specs.declared.pen.Pen.{Pen}
 use Rattle.vt_redraw.specs.Picture.{Picture, IsPicture, SamePictureSize, picture_of}
 use Rattle.vt_redraw.specs.Steady.{IsSteady}
@@ -53,6 +54,14 @@ unfolding rows_written
 rows_nothing pen [] = (refl, refl)
 rows_nothing pen (x ∷ xs) = rw (row_nothing 0 0 pen x) (below_nothing 0 pen x xs)
 
+-- Terminals agree on the position of a cursor that is in one of the columns.
+unshifted_inside : (form : Form) (picture : Picture) → nat_lt picture.column picture.width ≡ true →
+    (pen_of form picture).is_shifted ≡ false
+unfolding is_past_uncertain
+unshifted_inside Fixed picture inside = refl
+unshifted_inside Portable picture inside =
+    ap (λ (b : Bool). not b && ends_uncertain (row_or picture.width picture.rows picture.row).cells) inside
+
 cursor_nothing : (form : Form) (picture : Picture) →
     cursor_written (pen_of form picture) picture.width picture.rows picture.row picture.column ≡ []
 unfolding cursor_written
@@ -62,7 +71,9 @@ cursor_nothing form picture =
     let pending = pending_at (nearest picture.width picture.rows picture.row) pen picture.width picture.rows picture.row in
     cond_both (nat_lt picture.column picture.width) (move_ops pen picture.row picture.column)
     (if is_at pen picture.row picture.column then [] else pending) (λ (ops : List Op). ops ≡ [])
-    (λ _. going_nowhere pen picture.row picture.column (ap (λ (b : Bool). b && true) t))
+    (λ inside.
+    going_nowhere pen picture.row picture.column
+    (ap (λ (b : Bool). b && not pen.is_shifted) t ∙ ap not (unshifted_inside form picture inside)))
     (λ _. ap (λ (b : Bool). if b then [] else pending) t)
 
 pub difference_self_in : (form : Form) (picture : Picture) → difference_in form picture picture ≡ []

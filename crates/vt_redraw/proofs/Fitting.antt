@@ -412,13 +412,12 @@ picture_fits self is colors =
     fit_rows self.width self.rows (recursion_from_All (IsRow self.width) self.rows is.rows)
     (recursion_from_All (λ row. All (λ cell. FitsAttrs (attrs_of cell)) row.cells) self.rows colors.cells)
 
--- The columns of a valid picture are counted.
-pub picture_counted : (form : Form) (picture : Picture) → IsPicture picture → picture.width < 2 ^ 16 →
-    AllByRecursion (IsCountedRow form) picture.rows
-picture_counted form picture is small =
-    by_rows picture.rows (recursion_from_All (IsRow picture.width) picture.rows is.rows) where
-      by_rows : (rows : List RowValue) → AllByRecursion (IsRow picture.width) rows →
-          AllByRecursion (IsCountedRow form) rows
+-- The columns of valid rows are counted.
+pub rows_counted : (form : Form) (width : ℕ) (rows : List RowValue) → All (IsRow width) rows → width < 2 ^ 16 →
+    AllByRecursion (IsCountedRow form) rows
+rows_counted form width all_rows are small =
+    by_rows all_rows (recursion_from_All (IsRow width) all_rows are) where
+      by_rows : (rows : List RowValue) → AllByRecursion (IsRow width) rows → AllByRecursion (IsCountedRow form) rows
       by_rows [] all = tt
       by_rows (row ∷ rows) all =
           let columns = all.0.columns in (

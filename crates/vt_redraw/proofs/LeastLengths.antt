@@ -20,13 +20,12 @@ use Rattle.vt_rows.specs.Cells.{at, blanks}
 use Rattle.vt_rows.specs.Row.{RowValue, IsRow, blank_row}
 use Rattle.vt_grid.specs.Page.{row_or}
 use Rattle.vt_redraw.specs.declared.form.Form.{Form}
-use Rattle.vt_redraw.specs.declared.form.Form.TheVariants.{Fixed}
 use Rattle.vt_redraw.specs.declared.pen.Pen.{Pen}
 use Rattle.vt_redraw.specs.Limited.{IsEach, change_least, drawn_least, is_undrawn, rows_drawn_least}
 use Rattle.vt_redraw.specs.Picture.{Picture}
-use Rattle.vt_redraw.specs.Redraw.{blank_like, cursor_written, link_of, pen_of, redraw, row_written, rows_below}
-use Rattle.vt_redraw.specs.Redraw.{rows_written, script, script_in, redraw_in}
-use Rattle.vt_redraw.specs.Script.{Linked, Scripted, after_last_glyph, attr_ops, blank_run, cells_written, erase_run}
+use Rattle.vt_redraw.specs.Redraw.{blank_like, cursor_written, link_of, pen_of, row_written, rows_below}
+use Rattle.vt_redraw.specs.Redraw.{rows_written, script_in, redraw_in}
+use Rattle.vt_redraw.specs.Script.{Linked, Scripted, after_last_glyph, blank_run, cells_written, erase_run}
 use Rattle.vt_redraw.specs.Script.{first_written, is_at, is_blank_of, move_ops, no_link, ops_then, ops_then_link}
 use Rattle.vt_redraw.specs.Script.{placed_op, row_break, row_link, starts_other, wrapped_after_erasure, wrapped_after_glyph}
 use Rattle.vt_redraw.proofs.Halves.{Loose, Paired, loose_step, paired_loose, paired_of}
@@ -287,19 +286,19 @@ rows_least width pen (suc k) (x ∷ xs) (suc n) all le =
 -- ---- the redraw
 
 -- If the first `k` rows of a picture are valid, its redraw is at least as long as the lower bound for them.
-pub redraw_least : (picture : Picture) (k : ℕ) → All (IsRow picture.width) (take k picture.rows) →
-    rows_drawn_least (take k picture.rows) ≤ length (bytes_of_all (redraw picture))
+pub redraw_least : (form : Form) (picture : Picture) (k : ℕ) → All (IsRow picture.width) (take k picture.rows) →
+    rows_drawn_least (take k picture.rows) ≤ length (bytes_of_all (redraw_in form picture))
 unfolding redraw_in script_in
-redraw_least picture k all =
+redraw_least form picture k all =
     let blank = blank_like picture in
     let start : List Op = Hide picture.hidden ∷ ClearAttrs ∷ MoveTo 0 0 ∷ EraseBelow ∷ [] in
-    let written = rows_written (pen_of Fixed blank) picture.rows blank.rows in
+    let written = rows_written (pen_of form blank) picture.rows blank.rows in
     let end = cursor_written written.pen picture.width picture.rows picture.row picture.column
-    ++ attr_ops written.pen.attrs picture.attrs in
-    let least = rows_least picture.width (pen_of Fixed blank) k picture.rows (length picture.rows)
+    ++ attr_ops_in form written.pen.attrs picture.attrs in
+    let least = rows_least picture.width (pen_of form blank) k picture.rows (length picture.rows)
     (recursion_from_All (IsRow picture.width) (take k picture.rows) all) (omega arith) in
     let rows = bytes_both written.ops end in
-    let whole = bytes_both start (script picture blank) in
+    let whole = bytes_both start (script_in form picture blank) in
     omega (arith, least, rows, whole)
 
 -- ---- cells with equal heads

@@ -1,6 +1,7 @@
 -- A band of rows that moves, row by row.
-use Rattle.std.proofs.Common.{◌≡◌, ℕ, ◌+◌, ◌-◌, ◌<◌, ◌==◌, Bool, true, false, List, length, inl, inr, sym, ap, ◌∙◌}
+use Rattle.std.proofs.Common.{◌≡◌, ℕ, ◌+◌, ◌-◌, ◌<◌, ◌^◌, ◌==◌, Bool, true, false, List, length, inl, inr, sym, ap, ◌∙◌}
 use Rattle.std.proofs.Common.{arith}
+use Rattle.std.specs.List.{AllByRecursion}
 use Rattle.std.specs.Prelude.{All, if◌then◌else◌}
 use Rattle.std.proofs.lemmas.Bool.{cases_eq}
 use Rattle.std.proofs.lemmas.Bool.Decides.{nat_tests}
@@ -13,9 +14,13 @@ use Rattle.vt_grid.specs.Page.{row_or, moved_rows}
 use Rattle.vt_grid.specs.Shifts.{unflagged}
 use Rattle.vt_grid.proofs.Pages.{length-moved_rows, row_or-moved_rows, All-moved_rows, IsRow-row_or}
 use Rattle.vt_rows.proofs.Rows.{IsRow-wrapped}
+use Rattle.vt_redraw.specs.Fits.{Fits}
 use Rattle.vt_redraw.specs.Moved.{band_source, picture_after_move, rows_moved}
-use Rattle.vt_redraw.specs.Picture.{Picture, SamePictureSize}
+use Rattle.vt_redraw.specs.Picture.{IsColoredPicture, IsPicture, Picture, SamePictureSize}
+use Rattle.vt_redraw.specs.Redraw.{difference_in}
 use Rattle.vt_redraw.specs.declared.band.Band.{Band}
+use Rattle.vt_redraw.specs.declared.form.Form.{Form}
+use Rattle.vt_redraw.proofs.Fitting.{difference_fits_in, rows_counted}
 
 -- The row, marked as not wrapped if the test holds, and otherwise unchanged.
 abbrev pub unflagged_if : Bool → RowValue → RowValue
@@ -81,3 +86,11 @@ moved_size self prev band size = record {
   width = size.width;
   height = size.height ∙ sym (length-rows_moved prev.width band prev.rows);
 }
+
+-- The operations that draw a picture over one whose rows have moved are valid.
+pub moved_fits : (form : Form) (self prev : Picture) (band : Band) → IsPicture self → IsColoredPicture self →
+    IsPicture prev → prev.width < 2 ^ 16 → AllByRecursion Fits (difference_in form self (picture_after_move band prev))
+moved_fits form self prev band is colored other small =
+    difference_fits_in form self (picture_after_move band prev) is colored (tt, tt)
+    (rows_counted form prev.width (rows_moved prev.width band prev.rows)
+    (All-rows_moved prev.width band prev.rows other.rows) small)

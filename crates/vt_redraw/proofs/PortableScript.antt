@@ -37,7 +37,8 @@ use Rattle.vt_redraw.proofs.Touched.{some_same}
 
 script_portable : (self : Picture) (base : Canvas) (doubts : Doubts) → IsPicture self → IsSteady self →
     IsPicture (picture_of base) → IsPlainPage base.page → SamePictureSize self (picture_of base) →
-    Known false doubts base.page → PortableOps (script_in Portable self (picture_of base)) doubts base
+    Known (pen_of Portable (picture_of base)).is_shifted doubts base.page →
+    PortableOps (script_in Portable self (picture_of base)) doubts base
 unfolding script_in
 script_portable self base doubts is steady other plain size known =
     let width = base.page.width in
@@ -84,12 +85,12 @@ script_portable self base doubts is steady other plain size known =
     (at_pen base self.rows w.pen)) (sym same) finish)
 
 -- What is known of terminals that display a picture.
-known_start : (any : Canvas) → Known false (doubts_of (picture_of any)) any.page
+known_start : (any : Canvas) → Known (pen_of Portable (picture_of any)).is_shifted (doubts_of (picture_of any)) any.page
 unfolding doubts_of
 known_start any =
     let ending = if ends_blank (row_or any.page.width any.page.rows any.page.row).cells then Unsure else Pending in
     record {
-      place = λ _. refl;
+      place = λ f. f;
       inside = λ h. ap (λ (b : Bool). if b then NotPending else ending) (lt-ltb any.page.column any.page.width h);
       behind = λ h full.
           ap (λ (b : Bool). if b then NotPending else ending) (le-ltb any.page.column any.page.width h)
@@ -122,7 +123,7 @@ difference_portable self prev any is steady other size plain e =
     let sizes = subst (SamePictureSize self) shows size in
     let start = known_start any in
     let hides = hiding_keeps self any (doubts_of (picture_of any)) in
-    let known : Known false hides.left base.page = record {
+    let known : Known (pen_of Portable (picture_of base)).is_shifted hides.left base.page = record {
       place = λ f. hides.place ∙ start.place f;
       inside = λ h. hides.wrap ∙ start.inside h;
       behind = λ h full. hides.wrap ∙ start.behind h full;
@@ -175,7 +176,7 @@ redraw_portable self any doubts is steady other plain size =
     let script = script_portable self base no_doubts is steady blank
     (record { whole = (plain.whole.0, omega (arith, whole, tall, l)); origin = plain.origin })
     (record { width = same; height = sym l })
-    (placed_known false no_doubts base.page placed other.has_columns) in
+    (placed_known (pen_of Portable (picture_of base)).is_shifted no_doubts base.page placed other.has_columns) in
     let rest : PortableOps (script_in Portable self (blank_like self)) no_doubts base =
     subst (λ (p : Picture). PortableOps (script_in Portable self p) no_doubts base) shows script in
     let ops = script_in Portable self (blank_like self) in

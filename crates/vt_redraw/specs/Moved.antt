@@ -7,9 +7,10 @@ use Rattle.vt_rows.specs.Row.{RowValue}
 use Rattle.vt_grid.specs.Page.{moved_rows}
 use Rattle.vt_grid.specs.Shifts.{unflagged}
 use Rattle.vt_redraw.specs.Picture.{Picture}
-use Rattle.vt_redraw.specs.Redraw.{difference}
+use Rattle.vt_redraw.specs.Redraw.{difference_in}
 use Rattle.vt_redraw.specs.Script.{attr_ops}
 use Rattle.vt_redraw.specs.declared.band.Band.{Band}
+use Rattle.vt_redraw.specs.declared.form.Form.{Form}
 
 -- The band lies within a picture of `height` rows and moves by at least one row and at most its own height. If it moves
 -- by its whole height, all its rows become blank.
@@ -85,12 +86,15 @@ band_text height band = if band.up then up_text height band else down_text heigh
 abbrev pub moving_text : Band → Picture → List ℕ
 moving_text band prev = bytes_of_all (attr_ops prev.attrs default_attrs) ++ band_text (length prev.rows) band
 
--- The sequences that move a band, followed by the output that turns the picture displayed after the move into `self`.
-abbrev pub scrolling_text : Band → (self prev : Picture) → List ℕ
-scrolling_text band self prev = moving_text band prev ++ bytes_of_all (difference self (picture_after_move band prev))
+-- The sequences that move a band, followed by the output in the given form that turns the picture displayed after the
+-- move into `self`.
+abbrev pub scrolling_text : Form → Band → (self prev : Picture) → List ℕ
+scrolling_text form band self prev =
+    moving_text band prev ++ bytes_of_all (difference_in form self (picture_after_move band prev))
 
--- The text is a diff from `prev` to `self`: either one that moves no rows, or one that first moves a band.
-abbrev pub IsScrolling : (self prev : Picture) → List ℕ → Type 0
-IsScrolling self prev text =
-    (text ≡ bytes_of_all (difference self prev))
-    ⊎ ((band : Band) × IsBand (length prev.rows) band × (text ≡ scrolling_text band self prev))
+-- The text is a diff in the given form from `prev` to `self`: either one that moves no rows, or one that first moves a
+-- band.
+abbrev pub IsScrolling : Form → (self prev : Picture) → List ℕ → Type 0
+IsScrolling form self prev text =
+    (text ≡ bytes_of_all (difference_in form self prev))
+    ⊎ ((band : Band) × IsBand (length prev.rows) band × (text ≡ scrolling_text form band self prev))

@@ -12,6 +12,7 @@ use Rattle.vt_redraw.specs.Script.{pen_in, move_ops, attr_ops, attr_ops_in, back
 use Rattle.vt_redraw.specs.declared.form.Form.{Form}
 use Rattle.vt_redraw.specs.declared.form.Form.TheVariants.{Fixed, Portable}
 use Rattle.vt_redraw.specs.declared.pen.Pen.{Pen}
+use Rattle.vt_redraw.specs.Doubts.{is_past_uncertain}
 use Rattle.vt_redraw.specs.Picture.{Picture}
 use Rattle.vt_redraw.specs.Script.{Scripted, after_last_glyph, is_at, last_column, no_ops, ops_then}
 use Rattle.vt_redraw.specs.Script.{last_glyph, cells_written, Linked, no_link, row_link, row_break}
@@ -100,8 +101,17 @@ cursor_written pen width rows row column =
 
 -- ---- whole pictures
 
+-- Whether terminals that display a picture with the given width, cursor and rows may differ in the cursor's position. The
+-- fixed form does not take this into account.
+abbrev pub starts_shifted : Form → (width row column : ℕ) → List RowValue → Bool
+starts_shifted Fixed width row column rows = false
+starts_shifted Portable width row column rows = is_past_uncertain width row column rows
+
+-- The pen for terminals that display the picture.
 abbrev pub pen_of : Form → Picture → Pen
-pen_of form picture = pen_in form picture.row picture.column picture.attrs
+pen_of form picture = record (pen_in form picture.row picture.column picture.attrs) {
+  is_shifted = starts_shifted form picture.width picture.row picture.column picture.rows;
+}
 
 -- The operations that turn the picture `prev` into `self`: first its rows, then its cursor and attributes.
 unfoldable pub script_in : Form → (self prev : Picture) → List Op

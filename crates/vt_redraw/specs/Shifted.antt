@@ -12,6 +12,8 @@ use Rattle.vt_redraw.specs.Script.{attr_ops}
 use Rattle.vt_redraw.specs.Moved.{IsBand, IsScrolling}
 use Rattle.vt_redraw.specs.declared.band_guess.Move.{Move}
 use Rattle.vt_redraw.specs.declared.band_guess.Move.TheVariants.{Rows, Columns}
+use Rattle.vt_redraw.specs.declared.form.Form.{Form}
+use Rattle.vt_redraw.specs.declared.form.Form.TheVariants.{Fixed}
 use Rattle.vt_redraw.specs.declared.row_shift.RowShift.{RowShift}
 
 -- The shift inserts or deletes at least one column and lies within a picture of the given size.
@@ -20,11 +22,11 @@ pub record IsRowShift (height width : ℕ) (shift : RowShift) : Type 0 where
   pub row : shift.row < height
   pub columns : shift.col + shift.count ≤ width
 
--- The move is valid for a picture of the given size: it is a valid move of a band (`IsBand`) or a valid shift of
--- columns (`IsRowShift`).
-abbrev pub IsMove : (height width : ℕ) → Move → Type 0
-IsMove height width (Rows band) = IsBand height band
-IsMove height width (Columns shift) = IsRowShift height width shift
+-- The move is valid for output in the given form and a picture of the given size: it is a valid move of a band
+-- (`IsBand`) or, in the fixed form, a valid shift of columns (`IsRowShift`).
+abbrev pub IsMove : Form → (height width : ℕ) → Move → Type 0
+IsMove form height width (Rows band) = IsBand height band
+IsMove form height width (Columns shift) = (form ≡ Fixed) × IsRowShift height width shift
 
 -- A row after a shift has inserted blanks into it or deleted columns from it.
 abbrev pub shifted_row : RowShift → RowValue → RowValue
@@ -85,6 +87,7 @@ pub record IsShifting (self prev : Picture) (text : List ℕ) : Type 0 where
   pub inside : AllByRecursion (IsRowShift (length prev.rows) prev.width) (first ∷ rest)
   pub bytes : text ≡ shifting_text (first ∷ rest) self prev
 
--- The text is a diff from `prev` to `self` that may first move a band of rows or shift columns.
-abbrev pub IsMoving : (self prev : Picture) → List ℕ → Type 0
-IsMoving self prev text = IsScrolling self prev text ⊎ IsShifting self prev text
+-- The text is a diff in the given form from `prev` to `self` that may first move a band of rows or, in the fixed form,
+-- shift columns.
+abbrev pub IsMoving : Form → (self prev : Picture) → List ℕ → Type 0
+IsMoving form self prev text = IsScrolling form self prev text ⊎ ((form ≡ Fixed) × IsShifting self prev text)

@@ -6,6 +6,7 @@
 //! of these rows if no rows are moved, as far as they have been computed (see [`cost_at`]).
 
 ghost use Rattle.std.specs.Prelude.{◌≡◌, ◌+◌, ◌<◌, ◌≤◌, IfSome, IsSome, length};
+ghost use Rattle.vt_redraw.specs.declared.form.Form.TheVariants.{Fixed};
 ghost use Rattle.vt_redraw.specs.Moved.{IsBand};
 ghost use Rattle.vt_redraw.specs.Picture.{SamePictureSize};
 ghost use Rattle.vt_redraw.specs.Shifted.{IsMove, IsRowShift};
@@ -13,6 +14,7 @@ ghost use Rattle.vt_redraw.specs.Shifted.{IsMove, IsRowShift};
 use crate::band::Band;
 use crate::drawn_rows::DrawnRows;
 use crate::erasure::{likely_erasure, may_save};
+use crate::form::Form;
 use crate::picture_row::PictureRow;
 use crate::row_costs::{Numbers, add_costs, between, cost, cost_at, savings, sequences};
 use crate::row_guess::likely_row_shift;
@@ -86,11 +88,18 @@ pub enum Move {
 /// rows or columns seem to have moved, returns a move that erases rows. Returns `None` if no move
 /// is expected to shorten the output enough, or if `text`, the diff written without a move, is
 /// shorter than 20 bytes. Only the first 256 rows are examined, and if `text` is longer than 4096
-/// bytes, only moves of rows are considered. These are considered only if at least two rows have
-/// changed. `drawn` holds the rows for which `text` contains output.
-pub fn likely_move(view: &View<'_>, prev: &View<'_>, text: &str, drawn: &DrawnRows) -> Option<Move>
+/// bytes, or `form` is the portable form, only moves of rows are considered. Moves of rows that
+/// keep their text are considered only if at least two rows have changed. `drawn` holds the rows
+/// for which `text` contains output.
+pub fn likely_move(
+    view: &View<'_>,
+    prev: &View<'_>,
+    form: Form,
+    text: &str,
+    drawn: &DrawnRows,
+) -> Option<Move>
     requires { SamePictureSize view.now prev.now }
-    ensures inside { IfSome result (IsMove (length prev.now.rows) prev.now.width) }
+    ensures inside { IfSome result (IsMove form (length prev.now.rows) prev.now.width) }
     ensures text { IsSome result → 0 < length text.now }
 {
     if text.len() < LEAST_TEXT {
@@ -106,7 +115,7 @@ pub fn likely_move(view: &View<'_>, prev: &View<'_>, text: &str, drawn: &DrawnRo
     if text.len() > MOST_TEXT {
         return None;
     }
-    if let Some(shift) = first_row_shift(view, prev, height, &mut here, text.len()) {
+    if let Some(shift) = allowed_row_shift(view, prev, form, height, &mut here, text.len()) {
         return Some(Move::Columns(shift));
     }
     let attrs = prev.pen().attrs;
@@ -134,6 +143,27 @@ fn likely_band(view: &View<'_>, prev: &View<'_>, height: u16, here: &mut Numbers
         Some(band)
     } else {
         None
+    }
+}
+
+/// Returns the result of [`first_row_shift`], or `None` in the portable form: terminals that
+/// disagree on the width of a glyph disagree on what ICH and DCH do in its row.
+fn allowed_row_shift(
+    view: &View<'_>,
+    prev: &View<'_>,
+    form: Form,
+    height: u16,
+    here: &mut Numbers,
+    len: usize,
+) -> Option<RowShift>
+    requires size { SamePictureSize view.now prev.now }
+    requires inside { height ≤ length view.now.rows }
+    requires few { height ≤ 256 }
+    ensures { IfSome result (λ shift. (form ≡ Fixed) × IsRowShift (length prev.now.rows) prev.now.width shift) }
+{
+    match form {
+        Form::Fixed => first_row_shift(view, prev, height, here, len),
+        Form::Portable => None,
     }
 }
 

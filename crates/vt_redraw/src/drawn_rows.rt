@@ -2,7 +2,7 @@
 
 use crate::row_costs::{Numbers, UNKNOWN};
 
-/// A receiver that [`crate::write_contents_diff_watched`] notifies after each row.
+/// A receiver that [`crate::write_contents_diff_in`] notifies after each row.
 pub trait RowWatch<S> {
     /// Receives the sink after the output for row `row` has been written. Rows are passed from top
     /// to bottom.

@@ -38,8 +38,8 @@ pub use limited::write_contents_formatted_within;
 pub use pen::Pen;
 pub use picture_row::PictureRow;
 pub use redraw::{
-    write_contents_diff, write_contents_diff_in, write_contents_diff_watched,
-    write_contents_formatted, write_contents_formatted_in, write_cursor_state,
+    write_contents_diff, write_contents_diff_in, write_contents_formatted,
+    write_contents_formatted_in, write_cursor_state,
 };
 pub use row_shift::RowShift;
 pub use row_shifts::write_row_shifts;

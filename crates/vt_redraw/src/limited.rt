@@ -10,11 +10,12 @@ ghost use Rattle.vt_rows.specs.Cells.{at};
 ghost use Rattle.vt_redraw.specs.Limited.{AppendsWithin, IsEach, change_least, drawn_least};
 ghost use Rattle.vt_redraw.specs.Limited.{is_undrawn};
 ghost use Rattle.vt_redraw.specs.Picture.{SamePictureSize};
-ghost use Rattle.vt_redraw.specs.Redraw.{redraw, rows_written, script};
+ghost use Rattle.vt_redraw.specs.Redraw.{redraw_in, rows_written, script_in};
 
 use crate::cursor_rule::write_cursor;
+use crate::form::Form;
 use crate::links::write_link;
-use crate::pen::{Pen, write_change};
+use crate::pen::{Pen, write_change_in};
 use crate::script::{write_row, write_top};
 use crate::view::View;
 use vt_cells::term::{BufWrite, ClearAttrs, ClearScreen, HideCursor};
@@ -110,10 +111,11 @@ fn drawn_least(cells: &[Cell]) -> usize
 }
 
 /// Returns whether the glyphs of the picture and the changes of attributes within its rows take at
-/// least `len` bytes. If they do, so does the full redraw of the picture. Returns `false` without
-/// adding up lengths if `len` is more than four bytes per cell, which few pictures take.
+/// least `len` bytes. If they do, so does the full redraw of the picture in either form. Returns
+/// `false` without adding up lengths if `len` is more than four bytes per cell, which few pictures
+/// take.
 fn has_drawn_least(view: &View<'_>, len: usize) -> bool
-    ensures { IsTrue result → len ≤ length (bytes_of_all (redraw view.now)) }
+    ensures { (form : Form) → IsTrue result → len ≤ length (bytes_of_all (redraw_in form view.now)) }
 {
     let cells = usize::from(view.rows()).saturating_mul(usize::from(view.cols()));
     if len / 4 > cells {
@@ -171,29 +173,35 @@ fn write_script_within(
     text: &mut String,
     view: &View<'_>,
     prev: &View<'_>,
+    form: Form,
     limit: usize,
 ) -> Result<bool, Error>
     requires size { SamePictureSize view.now prev.now }
     ensures { IfOk result (λ is_whole. AppendsWithin is_whole limit (string_bytes text.old) (string_bytes text.new)
-        (bytes_of_all (script view.now prev.now))) }
+        (bytes_of_all (script_in form view.now prev.now))) }
 {
-    let mut pen = prev.pen();
+    let mut pen = prev.pen_in(form);
     let is_whole = write_rows_within(text, &mut pen, view, prev, limit)?;
     if !is_whole {
         return Ok(false);
     }
     write_cursor(text, pen, view)?;
-    write_change(text, pen.attrs, view.pen().attrs)?;
+    write_change_in(text, form, pen.attrs, view.pen().attrs)?;
     Ok(true)
 }
 
-/// Writes the output of [`crate::write_contents_formatted`] to a string, but stops if the string
+/// Writes the output of [`crate::write_contents_formatted_in`] to a string, but stops if the string
 /// has reached `limit` bytes before all rows are written. Returns whether all of the output was
 /// written.
 #[tactic(auto, unfolding(crate::specs::Redraw::redraw_in))]
-fn write_redraw_within(text: &mut String, view: &View<'_>, limit: usize) -> Result<bool, Error>
+fn write_redraw_within(
+    text: &mut String,
+    view: &View<'_>,
+    form: Form,
+    limit: usize,
+) -> Result<bool, Error>
     ensures { IfOk result (λ is_whole. AppendsWithin is_whole limit (string_bytes text.old) (string_bytes text.new)
-        (bytes_of_all (redraw view.now))) }
+        (bytes_of_all (redraw_in form view.now))) }
 {
     HideCursor {
         state: view.hidden(),
@@ -205,11 +213,11 @@ fn write_redraw_within(text: &mut String, view: &View<'_>, limit: usize) -> Resu
         return Ok(false);
     }
     let blank = view.blanked();
-    let is_whole = write_script_within(text, view, &blank, limit)?;
+    let is_whole = write_script_within(text, view, &blank, form, limit)?;
     Ok(is_whole)
 }
 
-/// Writes the full redraw of a picture to a string, as [`crate::write_contents_formatted`] does,
+/// Writes the full redraw of a picture to a string, as [`crate::write_contents_formatted_in`] does,
 /// but stops if the string has reached `limit` bytes before all rows are written. Writes nothing if
 /// the glyphs of the picture and the changes of attributes within its rows are known to take at
 /// least `limit` bytes. Returns whether the whole redraw was written.
@@ -223,17 +231,18 @@ fn write_redraw_within(text: &mut String, view: &View<'_>, limit: usize) -> Resu
 pub fn write_contents_formatted_within(
     text: &mut String,
     view: &View<'_>,
+    form: Form,
     limit: usize,
 ) -> Result<bool, Error>
     ensures text { IfOk result (λ is_whole. AppendsWithin is_whole limit (string_bytes text.old) (string_bytes text.new)
-        (bytes_of_all (redraw view.now))) }
+        (bytes_of_all (redraw_in form view.now))) }
     ensures memory { OnlyOutOfMemory result }
 {
     // Adding up lengths takes far less time than writing.
     if has_drawn_least(view, limit) {
         return Ok(false);
     }
-    match write_redraw_within(text, view, limit) {
+    match write_redraw_within(text, view, form, limit) {
         Ok(is_whole) => Ok(is_whole),
         Err(_) => Err(Error::OutOfMemory),
     }

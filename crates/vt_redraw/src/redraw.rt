@@ -65,25 +65,7 @@ pub fn write_contents_diff<S: Sink>(
     ensures text { OnOk result (S.text sink.new ≡ S.text sink.old ++ bytes_of_all (difference view.now prev.now)) }
     ensures nonempty { RefusedOnlyIfSome result (bytes_of_all (difference view.now prev.now)) }
 {
-    write_contents_diff_watched(sink, view, prev, &mut ())
-}
-
-/// Writes the output of [`write_contents_diff`], and notifies `watch` after each row.
-///
-/// # Errors
-///
-/// Returns the sink's error. Part of the output may have been written by then.
-pub fn write_contents_diff_watched<S: Sink, W: RowWatch<S>>(
-    sink: &mut S,
-    view: &View<'_>,
-    prev: &View<'_>,
-    watch: &mut W,
-) -> Result<(), S::Error>
-    requires { SamePictureSize view.now prev.now }
-    ensures text { OnOk result (S.text sink.new ≡ S.text sink.old ++ bytes_of_all (difference view.now prev.now)) }
-    ensures nonempty { RefusedOnlyIfSome result (bytes_of_all (difference view.now prev.now)) }
-{
-    write_contents_diff_in(sink, view, prev, Form::Fixed, watch)
+    write_contents_diff_in(sink, view, prev, Form::Fixed, &mut ())
 }
 
 /// Writes the output that turns the display of `prev` into the display of `view` in the given form,

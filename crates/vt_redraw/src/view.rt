@@ -8,11 +8,12 @@ ghost use Rattle.vt_rows.specs.Row.{IsRow};
 ghost use Rattle.vt_redraw.specs.Internals.{IsPageUnder, row_seen};
 ghost use Rattle.vt_redraw.specs.Moved.{IsBand, picture_after_move, rows_moved};
 ghost use Rattle.vt_redraw.specs.Picture.{IsPicture, cut_rows, picture_over};
-ghost use Rattle.vt_redraw.specs.Redraw.{blank_like, pen_of};
+ghost use Rattle.vt_redraw.specs.Doubts.{is_past_uncertain};
+ghost use Rattle.vt_redraw.specs.Redraw.{blank_like, pen_of, starts_shifted};
 ghost use Rattle.vt_redraw.specs.declared.form.Form.TheVariants.{Fixed};
 
 use crate::band::Band;
-use crate::form::Form;
+use crate::form::{Form, shifts};
 use crate::pen::Pen;
 use crate::picture_row::PictureRow;
 use std::marker::Model;
@@ -172,8 +173,34 @@ impl<'a> View<'a> {
             col: self.pen.col,
             attrs: self.pen.attrs,
             form,
-            is_shifted: false,
+            is_shifted: self.starts_shifted(form),
         }
+    }
+
+    /// Returns whether terminals that display the picture may differ in the cursor's position, because
+    /// a wrap is pending after a glyph on whose width they may disagree. Always returns `false` in the
+    /// fixed form, which does not take this into account.
+    #[inline]
+    fn starts_shifted(&self, form: Form) -> bool
+        ensures { result
+            ≡ starts_shifted form self.now.width self.now.row self.now.column self.now.rows }
+    {
+        match form {
+            Form::Fixed => false,
+            Form::Portable => self.is_past_uncertain(),
+        }
+    }
+
+    /// Returns whether a wrap is pending after a glyph on whose width terminals may disagree.
+    #[tactic(auto, unfolding(crate::specs::Doubts::is_past_uncertain))]
+    fn is_past_uncertain(&self) -> bool
+        ensures { result ≡ is_past_uncertain self.now.width self.now.row self.now.column self.now.rows }
+    {
+        if self.pen.col < self.cols {
+            return false;
+        }
+        let row = self.row(self.pen.row);
+        !row.ends_blank() && shifts(Form::Portable, row.cell(row.last_col()))
     }
 
     /// Returns whether the cursor is hidden.

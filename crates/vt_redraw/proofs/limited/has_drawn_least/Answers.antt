@@ -36,7 +36,7 @@ loop-row-preserved c = record {
 }
 
 pub returns-then-least-len : goal.returns-then-least-len
-returns-then-least-len c _ =
+returns-then-least-len c form _ =
     let sum = sum_least c.before in
-    let least = redraw_least c.args.view.now (c.loop-row.row + 1) (sound_rows c.before) in
+    let least = redraw_least form c.args.view.now (c.loop-row.row + 1) (sound_rows c.before) in
     omega (arith, sum, least, c.if-least-len.true)
