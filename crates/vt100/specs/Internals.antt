@@ -5,12 +5,13 @@ use Rattle.std.specs.declared.result.Result.{Result}
 use Rattle.vt_cells.specs.Refusals.{OnlyOutOfMemory}
 use Rattle.vt_cells.specs.declared.error.Error.{Error}
 use Rattle.vt_scan.specs.Automaton.{Event}
+use Rattle.vt_scan.specs.Scanner.{ScannerValue}
 use Rattle.vt_screen.specs.Calls.{CallValue, UnhandledCsi}
 use Rattle.vt_screen.specs.Screen.{ScreenValue}
 use Rattle.vt_screen.specs.Steps.{Step, Print, LineFeed, ScrollUp, EnterAlternate}
 use Rattle.vt_screen.specs.Steps.{EnterFresh, EraseScrollback, CallBack}
 use Rattle.vt_screen.specs.Run.{CallRelation, Breaks, Performs, Refuses, State, StopsIn, Takes, state}
-use Rattle.vt100.specs.Parser.{ParserValue, Ran, Stopped, StoppedAt}
+use Rattle.vt100.specs.Parser.{ParserValue, Ran, Stopped, StoppedAt, invokes_none, parser_value}
 use Rattle.vt100.specs.declared.sequence.Sequence.{Sequence}
 
 -- Taking all of the given steps in order turns the callbacks `old` and the screen `before` into `new` and `after`.
@@ -56,6 +57,13 @@ pub record ReadsOrStops {S : Type 0} (does : CallRelation S)
   pub ran : IfOk result (λ count. Ran does old (take count bytes) new)
   pub stopped : IsErr result → Stopped does old bytes new
   pub where_stopped : IfErr result (λ count. StoppedAt does old bytes count new)
+
+-- The effect of a call that reads the first `count` of the bytes without invoking callbacks: the screen `before` becomes
+-- `after`, and the scanner's value `held` is unchanged.
+pub record ReadsSilently (held : ScannerValue) (before : ScreenValue) (bytes : List ℕ) (count : ℕ)
+    (after : ScreenValue) : Type 0 where
+  pub inside : count ≤ length bytes
+  pub ran : Ran invokes_none (parser_value held before tt) (take count bytes) (parser_value held after tt)
 
 -- The `unhandled_csi` call that reports a control sequence.
 abbrev pub report_of : Sequence → CallValue

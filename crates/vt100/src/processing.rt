@@ -1,9 +1,9 @@
 //! The loop that parses bytes and applies the resulting events.
 
-ghost use Rattle.std.specs.Prelude.{◌-◌, ◌<◌, ◌≤◌, IfOk, IsErr, length, map, option_to_list, slice_index_or, take};
+ghost use Rattle.std.specs.Prelude.{◌-◌, ◌<◌, ◌≤◌, IfOk, IsErr, length, map, option_to_list, slice_index_or};
 ghost use Rattle.vt_cells.specs.Refusals.{OnlyOutOfMemory};
-ghost use Rattle.vt100.specs.Internals.{PerformsOrBreaks, ReadsOrStops};
-ghost use Rattle.vt100.specs.Parser.{CallsByLast, IsSilent, Ran, Stopped, parser_value};
+ghost use Rattle.vt100.specs.Internals.{PerformsOrBreaks, ReadsOrStops, ReadsSilently};
+ghost use Rattle.vt100.specs.Parser.{CallsByLast, Ran, Stopped, parser_value};
 ghost use Rattle.vt_scan.specs.Scanner.{ReadsItself, event_of, events_in};
 ghost use Rattle.vt_screen.specs.Run.{state};
 
@@ -282,7 +282,7 @@ fn process_high<CB: Callbacks>(
     ensures read { ReadsOrStops CB.does (parser_value scanner.old screen.old callbacks.old) bytes.now
         (parser_value scanner.new screen.new callbacks.new) result }
 {
-    let printed = print_run(scanner, screen, callbacks, bytes)?;
+    let printed = print_run(scanner, screen, bytes);
     if printed > 0 {
         return Ok(printed);
     }
@@ -291,139 +291,100 @@ fn process_high<CB: Callbacks>(
 
 /// Prints a run of three-byte wide characters, or a run of narrow characters below U+3000, from the
 /// start of `bytes`, stopping at the end of the cursor's row. Returns the number of bytes read,
-/// which is 0 if nothing was printed. Never returns an error.
+/// which is 0 if nothing was printed.
 #[inline(always)]
-fn print_run<CB: Callbacks>(
-    scanner: &Scanner,
-    screen: &mut Screen,
-    callbacks: &CB,
-    bytes: &[u8],
-) -> Result<usize, usize>
+fn print_run(scanner: &Scanner, screen: &mut Screen, bytes: &[u8]) -> usize
     requires { 0 < length bytes.now }
-    ensures read { ReadsOrStops CB.does (parser_value scanner.now screen.old callbacks.now) bytes.now
-        (parser_value scanner.now screen.new callbacks.now) result }
-    ensures silent { IfOk result (λ count. IsSilent screen.old scanner.now (take count bytes.now)) }
+    ensures { ReadsSilently scanner.now screen.old bytes.now result screen.new }
 {
     // The most common combining characters begin with CC or CD. They end a run at once, so trying
     // to print a run would cost more than it saves.
     let may_combine = bytes[0] == 0xCC || bytes[0] == 0xCD;
     if bytes[0] >= 0xC2 && bytes[0] < 0xE3 && !may_combine {
-        return print_narrow_run(scanner, screen, callbacks, bytes);
+        return print_narrow_run(scanner, screen, bytes);
     }
     if bytes[0] >= 0xE3 && bytes[0] <= 0xED {
-        return print_wide_run(scanner, screen, callbacks, bytes);
+        return print_wide_run(scanner, screen, bytes);
     }
-    Ok(0)
+    0
 }
 
 /// Prints a run of at most 64 three-byte wide characters from the start of `bytes`, stopping at the
 /// end of the cursor's row. Returns the number of bytes read, which is 0 if nothing was printed.
-/// Never returns an error.
 ///
 /// This function is never inlined, so that its buffer takes up stack space only while it runs.
 #[inline(never)]
-fn print_wide_run<CB: Callbacks>(
-    scanner: &Scanner,
-    screen: &mut Screen,
-    callbacks: &CB,
-    bytes: &[u8],
-) -> Result<usize, usize>
-    ensures read { ReadsOrStops CB.does (parser_value scanner.now screen.old callbacks.now) bytes.now
-        (parser_value scanner.now screen.new callbacks.now) result }
-    ensures silent { IfOk result (λ count. IsSilent screen.old scanner.now (take count bytes.now)) }
+fn print_wide_run(scanner: &Scanner, screen: &mut Screen, bytes: &[u8]) -> usize
+    ensures { ReadsSilently scanner.now screen.old bytes.now result screen.new }
 {
     let mut text = ['\0'; RUN];
-    print_wide_some(scanner, screen, callbacks, bytes, &mut text)
+    print_wide_some(scanner, screen, bytes, &mut text)
 }
 
 /// Decodes a run of three-byte wide characters from the start of `bytes` into the buffer `text`,
 /// and prints it. The run holds at most as many characters as fit in `text` and on the cursor's
-/// row. Returns the number of bytes read, which is 0 if nothing was printed. Never returns an
-/// error.
+/// row. Returns the number of bytes read, which is 0 if nothing was printed.
 #[inline(always)]
-fn print_wide_some<CB: Callbacks>(
-    scanner: &Scanner,
-    screen: &mut Screen,
-    callbacks: &CB,
-    bytes: &[u8],
-    text: &mut [char],
-) -> Result<usize, usize>
-    ensures read { ReadsOrStops CB.does (parser_value scanner.now screen.old callbacks.now) bytes.now
-        (parser_value scanner.now screen.new callbacks.now) result }
-    ensures silent { IfOk result (λ count. IsSilent screen.old scanner.now (take count bytes.now)) }
+fn print_wide_some(scanner: &Scanner, screen: &mut Screen, bytes: &[u8], text: &mut [char]) -> usize
+    ensures { ReadsSilently scanner.now screen.old bytes.now result screen.new }
 {
     let most = bytes.len().min(3 * usize::from(printing::room(screen) / 2));
     let count = scanner.wide_text(&bytes[..most], text);
     if count == 0 {
-        return Ok(0);
+        return 0;
     }
     printing::print_wide_text(screen, &text[..count]);
-    Ok(3 * count)
+    3 * count
 }
 
 /// Prints a run of at most 64 narrow characters below U+3000 from the start of `bytes`, stopping at
 /// the end of the cursor's row. Returns the number of bytes read, which is 0 if nothing was
-/// printed. Never returns an error.
+/// printed.
 ///
 /// This function is never inlined, so that its buffer takes up stack space only while it runs.
 #[inline(never)]
-fn print_narrow_run<CB: Callbacks>(
-    scanner: &Scanner,
-    screen: &mut Screen,
-    callbacks: &CB,
-    bytes: &[u8],
-) -> Result<usize, usize>
-    ensures read { ReadsOrStops CB.does (parser_value scanner.now screen.old callbacks.now) bytes.now
-        (parser_value scanner.now screen.new callbacks.now) result }
-    ensures silent { IfOk result (λ count. IsSilent screen.old scanner.now (take count bytes.now)) }
+fn print_narrow_run(scanner: &Scanner, screen: &mut Screen, bytes: &[u8]) -> usize
+    ensures { ReadsSilently scanner.now screen.old bytes.now result screen.new }
 {
     let mut text = ['\0'; RUN];
-    print_narrow_some(scanner, screen, callbacks, bytes, &mut text)
+    print_narrow_some(scanner, screen, bytes, &mut text)
 }
 
 /// Decodes a run of narrow characters below U+3000 from the start of `bytes` into the buffer
 /// `text`, and prints it. The run holds at most as many characters as fit in `text` and on the
-/// cursor's row. Returns the number of bytes read, which is 0 if nothing was printed. Never returns
-/// an error.
+/// cursor's row. Returns the number of bytes read, which is 0 if nothing was printed.
 #[inline(always)]
-fn print_narrow_some<CB: Callbacks>(
+fn print_narrow_some(
     scanner: &Scanner,
     screen: &mut Screen,
-    callbacks: &CB,
     bytes: &[u8],
     text: &mut [char],
-) -> Result<usize, usize>
-    ensures read { ReadsOrStops CB.does (parser_value scanner.now screen.old callbacks.now) bytes.now
-        (parser_value scanner.now screen.new callbacks.now) result }
-    ensures silent { IfOk result (λ count. IsSilent screen.old scanner.now (take count bytes.now)) }
+) -> usize
+    ensures { ReadsSilently scanner.now screen.old bytes.now result screen.new }
 {
     let most = text.len().min(usize::from(printing::room(screen)));
-    print_narrow_fitting(scanner, screen, callbacks, bytes, &mut text[..most])
+    print_narrow_fitting(scanner, screen, bytes, &mut text[..most])
 }
 
 /// Decodes a run of narrow characters below U+3000 from the start of `bytes` into the buffer
 /// `text`, and prints it. The run holds at most `text.len()` characters, and the cursor's row must
 /// have room for that many. Returns the number of bytes read, which is 0 if nothing was printed.
-/// Never returns an error.
 #[inline(always)]
-fn print_narrow_fitting<CB: Callbacks>(
+fn print_narrow_fitting(
     scanner: &Scanner,
     screen: &mut Screen,
-    callbacks: &CB,
     bytes: &[u8],
     text: &mut [char],
-) -> Result<usize, usize>
+) -> usize
     requires room { length text.old ≤ screen.old.page.width - screen.old.page.column }
-    ensures read { ReadsOrStops CB.does (parser_value scanner.now screen.old callbacks.now) bytes.now
-        (parser_value scanner.now screen.new callbacks.now) result }
-    ensures silent { IfOk result (λ count. IsSilent screen.old scanner.now (take count bytes.now)) }
+    ensures { ReadsSilently scanner.now screen.old bytes.now result screen.new }
 {
     let (count, len) = scanner.narrow_text(bytes, text);
     if count == 0 {
-        return Ok(0);
+        return 0;
     }
     printing::print_narrow_text(screen, &text[..count]);
-    Ok(len)
+    len
 }
 
 /// Applies the events that a single input byte has produced, in order.

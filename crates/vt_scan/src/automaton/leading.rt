@@ -31,7 +31,7 @@ impl Scanner {
         match self.kind {
             Kind::Ground => self.take_introducer_in_ground(bytes),
             Kind::Escape => self.take_introducer_after_escape(bytes),
-            Kind::CsiEntry => self.lead_from_entry(bytes),
+            Kind::CsiEntry => self.take_from_entry(bytes),
             Kind::CsiParam => self.take_parameter_bytes(bytes),
             _ => 0,
         }
@@ -99,7 +99,7 @@ impl Scanner {
         if !self.take_opening(bytes) {
             return self.take_introducer_by_bytes(bytes);
         }
-        let more = self.lead_from_entry(&bytes[2..]);
+        let more = self.take_from_entry(&bytes[2..]);
         2 + more
     }
 
@@ -135,14 +135,14 @@ impl Scanner {
             is_introducer self.new.kind self.new.unfinished (slice_index_or bytes.now result 0) ≡ false }
     {
         let escapes = self.take_escapes(bytes);
-        let more = self.lead_after_escapes(&bytes[escapes..]);
+        let more = self.take_after_escapes(&bytes[escapes..]);
         escapes + more
     }
 
     /// Parses the bytes that follow the last ESC and introduce a sequence, and returns how many it
     /// parsed. `bytes` must not begin with another ESC.
     #[inline(always)]
-    fn lead_after_escapes(&mut self, bytes: &[u8]) -> usize
+    fn take_after_escapes(&mut self, bytes: &[u8]) -> usize
         requires kind { self.old.kind ≡ Kind.Escape }
         requires ended { 0 < length bytes.now → slice_index_or bytes.now 0 0 ≢ 0x1B }
         ensures inside { result ≤ length bytes.now }
@@ -162,7 +162,7 @@ impl Scanner {
         if !self.take_bracket(bytes[0]) {
             return 0;
         }
-        let more = self.lead_from_entry(&bytes[1..]);
+        let more = self.take_from_entry(&bytes[1..]);
         1 + more
     }
 
@@ -170,7 +170,7 @@ impl Scanner {
     /// has already been parsed. Returns how many bytes it parsed. Tests for a marker only if there
     /// are no parameter bytes, since most sequences have no marker.
     #[inline(always)]
-    fn lead_from_entry(&mut self, bytes: &[u8]) -> usize
+    fn take_from_entry(&mut self, bytes: &[u8]) -> usize
         requires { self.old.kind ≡ Kind.CsiEntry }
         ensures inside { result ≤ length bytes.now }
         ensures fed { FeedsAll self.old (take result bytes.now) self.new [] }
@@ -181,14 +181,14 @@ impl Scanner {
         if count > 0 || bytes.is_empty() {
             return count;
         }
-        self.lead_from_marker(bytes)
+        self.take_from_marker(bytes)
     }
 
     /// Parses the private marker, if any, and the parameter bytes after it in a control sequence
     /// whose `[` has already been parsed. Returns how many bytes it parsed. `bytes` must not begin
     /// with a parameter byte.
     #[inline(always)]
-    fn lead_from_marker(&mut self, bytes: &[u8]) -> usize
+    fn take_from_marker(&mut self, bytes: &[u8]) -> usize
         requires kind { self.old.kind ≡ Kind.CsiEntry }
         requires nonempty { 0 < length bytes.now }
         requires other { is_parameter (slice_index_or bytes.now 0 0) ≡ false }

@@ -10,12 +10,12 @@ pub returns-clause-fed : goal.returns-clause-fed
 returns-clause-fed c =
     let bytes = c.args.bytes.now in
     let escapes = c.take_escapes-escapes.result in
-    let more = c.lead_after_escapes-more.result in
+    let more = c.take_after_escapes-more.result in
     let middle = c.take_escapes-escapes.new.self in
-    let new = c.lead_after_escapes-more.new.self in
+    let new = c.take_after_escapes-more.new.self in
     let rest : FeedsAll middle (take more (drop escapes bytes)) new [] =
     subst (λ (left : List ℕ). FeedsAll middle (take more left) new [])
-    (all_left bytes escapes) c.lead_after_escapes-more.ensures.fed in
+    (all_left bytes escapes) c.take_after_escapes-more.ensures.fed in
     subst (λ (text : List ℕ). FeedsAll c.args.self.now text new []) (sym (take-add escapes more bytes))
     (feeds_then c.args.self.now middle new (take escapes bytes) (take more (drop escapes bytes))
     c.take_escapes-escapes.ensures.fed rest)

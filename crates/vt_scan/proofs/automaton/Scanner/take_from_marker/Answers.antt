@@ -3,7 +3,7 @@ use Rattle.std.proofs.Common.{[], List, ℕ, drop, get_or, subst, sym, take}
 use Rattle.vt_scan.specs.Scanner.{FeedsAll}
 use Rattle.vt_scan.proofs.Leading.{feeds_first}
 use Rattle.vt_scan.proofs.Lists.{all_left, take_next}
-use Rattle.vt_scan.proofs.automaton.Scanner.lead_from_marker.Goals as goal
+use Rattle.vt_scan.proofs.automaton.Scanner.take_from_marker.Goals as goal
 
 pub returns-clause-fed : goal.returns-clause-fed
 returns-clause-fed c =
