@@ -127,8 +127,6 @@ fn update_from(seen: &Screen, screen: &Screen) -> Result<Option<String>, Error> 
     if !seen.is_steady() || !screen.is_sized_as(seen) {
         return Ok(None);
     }
-    let mut text = screen.contents_diff_with(seen, OPTIONS)?;
-    let modes = screen.input_mode_diff(seen)?;
-    text.push_str(modes.as_str())?;
+    let text = screen.state_diff_with(seen, OPTIONS)?;
     Ok(Some(text))
 }

@@ -7,7 +7,7 @@ use vt100::{DiffOptions, Error, RedrawOptions, Repeat, Screen};
 /// The options of redraws. Portable output avoids sequences on whose effects terminals disagree.
 const REDRAW: RedrawOptions = RedrawOptions { portable: true };
 
-/// The options of diffs: portable ones, with short cursor movements.
+/// The options of diffs: portable ones, which may move rows first.
 const DIFF: DiffOptions = DiffOptions {
     scroll: true,
     repeat: Repeat::Never,

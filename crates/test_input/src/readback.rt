@@ -131,6 +131,9 @@ pub enum Asked {
     /// The output of `state_formatted`.
     State,
 
+    /// The output of `state_formatted_with` in the portable form.
+    PortableState,
+
     /// The output of `input_mode_formatted`.
     Modes,
 
@@ -144,12 +147,13 @@ pub enum Asked {
 }
 
 /// All kinds of output of a screen.
-pub const ASKED: [Asked; 8] = [
+pub const ASKED: [Asked; 9] = [
     Asked::Redraw,
     Asked::Portable,
     Asked::Cursor,
     Asked::Attributes,
     Asked::State,
+    Asked::PortableState,
     Asked::Modes,
     Asked::Reset,
     Asked::ResetOnAlternate,
@@ -164,6 +168,9 @@ impl Asked {
             Asked::Cursor => screen.cursor_state_formatted(),
             Asked::Attributes => screen.attributes_formatted(),
             Asked::State => screen.state_formatted(),
+            Asked::PortableState => {
+                screen.state_formatted_with(RedrawOptions { portable: true })
+            }
             Asked::Modes => screen.input_mode_formatted(),
             Asked::Reset | Asked::ResetOnAlternate => screen.contents_formatted_reset(),
         }
@@ -206,7 +213,7 @@ impl Asked {
             Asked::Redraw | Asked::Portable | Asked::Reset | Asked::ResetOnAlternate => &PICTURE,
             Asked::Cursor => &[Part::Cells, Part::Flags, Part::Cursor],
             Asked::Attributes => &[Part::Attributes],
-            Asked::State => &PARTS,
+            Asked::State | Asked::PortableState => &PARTS,
             Asked::Modes => &[Part::Modes],
         }
     }
@@ -227,6 +234,9 @@ pub enum Change {
     /// The output of `state_diff`.
     State,
 
+    /// The output of `state_diff_with` with these options.
+    StateWith(DiffOptions),
+
     /// The output of `input_mode_diff`.
     Modes,
 }
@@ -245,6 +255,7 @@ impl Change {
             Change::Scrolling => screen.contents_diff_scrolling(prev),
             Change::With(options) => screen.contents_diff_with(prev, options),
             Change::State => screen.state_diff(prev),
+            Change::StateWith(options) => screen.state_diff_with(prev, options),
             Change::Modes => screen.input_mode_diff(prev),
         };
         Ok(text?)
@@ -273,7 +284,7 @@ impl Change {
     fn taken(self) -> &'static [Part] {
         match self {
             Change::Picture | Change::Scrolling | Change::With(_) => &PICTURE,
-            Change::State => &PARTS,
+            Change::State | Change::StateWith(_) => &PARTS,
             Change::Modes => &[Part::Modes],
         }
     }

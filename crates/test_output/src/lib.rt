@@ -19,6 +19,8 @@ mod screen_capture_tests;
 #[cfg(test)]
 mod sequence_tests;
 #[cfg(test)]
+mod state_tests;
+#[cfg(test)]
 mod steady_tests;
 #[cfg(test)]
 mod text_tests;

@@ -8,7 +8,7 @@ use test_input::readback::Asked::Portable;
 use test_input::readback::Change;
 use vt100::{DiffOptions, Repeat};
 
-/// Portable diffs with short cursor movements.
+/// Portable diffs that may move rows and have short cursor movements.
 const SHORT: DiffOptions = DiffOptions {
     scroll: true,
     repeat: Repeat::Never,
@@ -41,10 +41,10 @@ const REDRAWN: [Redrawn; 11] = [
     // A blank at the beginning of a row below a wrapped row.
     ((3, 4), 0, &[Text("abcdx\x1b[L")], Portable, "abcd \x1b[2;1H\x1b[X\r\nx\x1b[2;2H"),
 
-    // A heart with U+FE0F, an Indic consonant and vowel sign, and a letter with U+0301: terminals
-    // disagree on their widths, so the next character is placed.
+    // A heart with U+FE0F, an Indic vowel sign after its consonant, and a letter with U+0301:
+    // terminals disagree on their widths, so the next character is placed.
     ((1, 5), 0, &[Text("\u{2764}\u{fe0f}x")], Portable, "\u{2764}\u{fe0f}\x1b[1;3Hx"),
-    ((1, 5), 0, &[Text("\u{915}\u{93f}x")], Portable, "\u{915}\x1b[1;2H\u{93f}\x1b[1;3Hx"),
+    ((1, 5), 0, &[Text("\u{915}\u{93f}x")], Portable, "\u{915}\u{93f}\x1b[1;3Hx"),
     ((1, 5), 0, &[Text("xe\u{301}")], Portable, "xe\u{301}\x1b[1;3H"),
 
     // Such a glyph at the end of a row. Terminals may have wrapped already, so CR is not used.
@@ -71,7 +71,7 @@ fn portable_redraws_use_no_state_in_which_terminals_disagree(rt: HostRuntime) ->
 }
 
 #[rattlefmt::skip]
-const CHANGED: [Example; 7] = [
+const CHANGED: [Example; 8] = [
     // The three faults of the fixed form.
     (
         (2, 5), 0, &[], &[Text("abcd\r\nxxxxx\x1b[A")],
@@ -93,6 +93,9 @@ const CHANGED: [Example; 7] = [
     ((2, 5), 0, &[Text("ab")], &[Text("e\u{301}c")], "\x1b[He\u{301}\x1b[1;2Hc"),
     ((2, 5), 0, &[Text("a")], &[Text("e\u{301}")], "\x1b[He\u{301}\x1b[1;2H"),
 
+    // A wrap is pending after such a glyph. Terminals may have wrapped already, so CR is not used.
+    ((2, 2), 0, &[Text("ae\u{301}")], &[Text("ae\u{301}\r\nb")], "\x1b[2;1Hb"),
+
     // The fixed form is kept where terminals agree.
     ((2, 20), 0, &[], &[Text("----------")], "----------"),
 ];
@@ -106,7 +109,7 @@ fn portable_diffs_use_no_state_in_which_terminals_disagree(rt: HostRuntime) -> R
 }
 
 #[rattlefmt::skip]
-const SHORTENED: [Example; 8] = [
+const SHORTENED: [Example; 9] = [
     // BS, CR and LF are shorter than CUP.
     ((2, 5), 0, &[Text("abc\r\ndef")], &[Text("abc\r\ndef\x1b[2;2H")], "\x08\x08"),
     ((2, 5), 0, &[Text("abc")], &[Text("abc\x1b[H")], "\r"),
@@ -118,17 +121,79 @@ const SHORTENED: [Example; 8] = [
     // While a wrap is pending, the cursor moves only to an absolute position.
     ((2, 3), 0, &[Text("abc")], &[Text("abc\x1b[1;2H")], "\x1b[1;2H"),
 
-    // Terminals agree on the width of U+00E9, but not on that of U+0915, a letter of an Indic script.
+    // Terminals agree on the widths of U+00E9 and of U+0915, an Indic letter, but not on that of
+    // U+093F, an Indic vowel sign.
     ((1, 9), 0, &[], &[Text("\u{e9}\x1b[H")], "\u{e9}\r"),
-    ((1, 9), 0, &[], &[Text("\u{915}\x1b[H")], "\u{915}\x1b[H"),
+    ((1, 9), 0, &[], &[Text("\u{915}\x1b[H")], "\u{915}\r"),
+    ((1, 9), 0, &[], &[Text("\u{93f}\x1b[H")], "\u{93f}\x1b[H"),
 
-    // Rows are not moved.
+    // The diff is shorter than 20 bytes, so no rows are moved.
     ((2, 3), 0, &[Text("a\r\nb")], &[Text("a\r\nb\n")], "\x1b[Hb\r\n\x1b[K\x1b[C"),
 ];
 
 #[test]
 fn portable_diffs_move_the_cursor_with_short_sequences(rt: HostRuntime) -> Result<(), Fail> {
     for example in &SHORTENED {
+        expect_at_each_cut(rt.alloc(), Change::With(SHORT), example)?;
+    }
+    Ok(())
+}
+
+/// Input that fills four rows of nine or ten columns.
+const FOUR: &str = "aaaaaaaaa\r\nbbbbbbbbb\r\nccccccccc\r\nddddddddd";
+
+#[rattlefmt::skip]
+const MOVED: [Example; 6] = [
+    // All rows move up, while a wrap is pending and while none is.
+    (
+        (4, 10), 0,
+        &[Text(FOUR)],
+        &[Text(FOUR), Text("\r\neeeeeeeee")],
+        "\x1b[H\x1b[M\n\n\neeeeeeeee",
+    ),
+    (
+        (4, 9), 0,
+        &[Text(FOUR)],
+        &[Text(FOUR), Text("\r\neeeeeeeee")],
+        "\x1b[H\x1b[M\n\n\neeeeeeeee",
+    ),
+
+    // All rows move down. The cursor is already in the first column of the first row.
+    (
+        (4, 10), 0,
+        &[Text(FOUR), Text("\x1b[H")],
+        &[Text(FOUR), Text("\x1b[H\x1b[Lzzzzzzzzz")],
+        "\x1b[Lzzzzzzzzz",
+    ),
+
+    // DL erases all rows, after the attributes are reset.
+    (
+        (4, 10), 0,
+        &[Text(FOUR), Text("\x1b[1m")],
+        &[Text(FOUR), Text("\x1b[H\x1b[J")],
+        "\x1b[m\x1b[H\x1b[4M",
+    ),
+
+    // Columns have moved, but are drawn again.
+    (
+        (1, 30), 0,
+        &[Text("one two three four five six")],
+        &[Text("one two three four five six"), Text("\x1b[1;6H\x1b[4P")],
+        "\x1b[6Ghree four five six\x1b[K\x1b[6G",
+    ),
+
+    // The portable redraw is shorter than drawing over the old text of ten rows.
+    (
+        (266, 4), 0,
+        &[Text("\x1b[257;1Haa\r\naa\r\naa\r\naa\r\naa\r\naa\r\naa\r\naa\r\naa\r\naa\x1b[H")],
+        &[Text("\x1b[257;1Hb\r\nb\r\nb\r\nb\r\nb\r\nb\r\nb\r\nb\r\nb\r\nb")],
+        "\x1b[?25h\x1b[m\x1b[H\x1b[J\x1b[257;1Hb\r\nb\r\nb\r\nb\r\nb\r\nb\r\nb\r\nb\r\nb\r\nb",
+    ),
+];
+
+#[test]
+fn portable_diffs_move_rows_but_no_columns(rt: HostRuntime) -> Result<(), Fail> {
+    for example in &MOVED {
         expect_at_each_cut(rt.alloc(), Change::With(SHORT), example)?;
     }
     Ok(())

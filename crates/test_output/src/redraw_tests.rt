@@ -9,7 +9,7 @@ use test_input::examples::{
     Pieces, expect, expect_read_back_at_each_byte, feed, longest, read, read_keeping, taken,
 };
 use test_input::readback::Asked::{
-    self, Attributes, Cursor, Modes, Portable, Redraw, Reset, State,
+    self, Attributes, Cursor, Modes, Portable, PortableState, Redraw, Reset, State,
 };
 use test_input::readback::{ASKED, Change};
 use vt_notes::Notes;
@@ -75,7 +75,7 @@ const REDRAWN: [Example; 19] = [
 pub(crate) fn wanted_text(alloc: Global, asked: Asked, text: &str) -> Result<String, Fail> {
     let mut wanted = String::new(alloc);
     match asked {
-        Redraw | Portable => wanted.push_str(CLEAR)?,
+        Redraw | Portable | PortableState => wanted.push_str(CLEAR)?,
         Reset => {
             wanted.push_str(WHOLE_REGION)?;
             wanted.push_str(CLEAR)?;

@@ -1,5 +1,5 @@
 -- Runs in sequence.
-use Rattle.std.proofs.Common.{◌≡◌, ℕ, List, [], ◌∷◌, ◌++◌, ◌+◌, ◌-◌, ◌<◌, ◌≤◌, length, take, drop}
+use Rattle.std.proofs.Common.{◌≡◌, ℕ, List, [], ◌∷◌, ◌++◌, ◌+◌, ◌-◌, ◌<◌, ◌≤◌, Bool, length, take, drop}
 use Rattle.std.proofs.Common.{slice_index_or, Some, None, refl, sym, subst, ap, ◌∙◌, inl, inr, arith}
 use Rattle.std.proofs.Math.Seq.{get_or-append-add, take-add, take-append-add}
 use Rattle.std.proofs.lemmas.Bool.{false≢true}
@@ -7,6 +7,7 @@ use Rattle.std.proofs.lemmas.List.{append-nil, drop_more, length-append, length-
 use Rattle.std.specs.List.{FoldsTo}
 use Rattle.std.specs.Prelude.{Err, IfOk, Ok, Result}
 use Rattle.vt_rows.proofs.Folds.{folds_then}
+use Rattle.vt_rows.specs.Row.{RowValue}
 use Rattle.vt_scan.specs.Automaton.{Event, State, Step, step_in}
 use Rattle.vt_scan.specs.Run.{run}
 use Rattle.vt_scan.specs.Scanner.{Feeds, FeedsAll, ScannerValue, StandsFor, events_in}
@@ -18,11 +19,13 @@ use Rattle.vt_scan.specs.declared.table.Kind.TheVariants.{OscString}
 use Rattle.vt_scan.specs.declared.table.Transition.TheVariants.{Collect}
 use Rattle.vt_scan.proofs.Running.{run-append}
 use Rattle.vt_screen.specs.Run as act
-use Rattle.vt_screen.specs.Run.{CallRelation, Performs, Breaks, StopsIn, state}
+use Rattle.vt_screen.specs.Controls.{seen_of, steps_of}
+use Rattle.vt_screen.specs.Run.{CalledOnScroll, CallRelation, Performs, Breaks, StopsIn, Takes, state}
 use Rattle.vt_screen.specs.Screen.{ScreenValue}
+use Rattle.vt_screen.specs.Steps.{Step as Action, Print, LineFeed, ScrollUp, EraseScrollback, CallBack}
 use Rattle.vt100.specs.Internals.{ReadsOrStops}
 use Rattle.vt100.specs.Parser.{CallsByLast, IsSilent, ParserValue, Ran, Stopped, StoppedAt, StoppedBefore, StoppedWithin}
-use Rattle.vt100.specs.Parser.{Collects, invokes_none, pieces_joined, stage}
+use Rattle.vt100.specs.Parser.{Collects, invokes_none, parser_value, pieces_joined, stage}
 use Rattle.vt100.proofs.Refusing.{stopped_at_after}
 
 pub stops_first : {P A : Type 0} (R T : P → A → P → Type 0) (xs ys : List A) (p q : P) →
@@ -210,6 +213,47 @@ read_after_quiet does p q r bytes (Err count) nothing reads =
     (stopped_at_after does p q r bytes count nothing reads.where_stopped)
 
 -- ---- which callbacks are invoked, and when
+
+-- Rows that are reported to callbacks that cannot be invoked are none.
+none_reported : {S : Type 0} (does : CallRelation S) (s : S) (screen : ScreenValue) (alternate : Bool) (a b : Unit {0})
+    (rows : List RowValue) → FoldsTo (CalledOnScroll invokes_none alternate) a rows b →
+    FoldsTo (CalledOnScroll does alternate) s rows s
+none_reported does s screen alternate a b [] called = refl
+none_reported does s screen alternate a b (row ∷ rows) called = absurd (called.1 screen)
+
+-- What is done with callbacks that cannot be invoked has the same effect with any callbacks.
+takes_silently : {S : Type 0} (does : CallRelation S) (s : S) (x : Action) (a b : act.State (Unit {0})) →
+    Takes invokes_none a x b → Takes does (state s a.screen) x (state s b.screen)
+takes_silently does s (CallBack call) a b t = absurd t
+takes_silently does s (Print c) a b t =
+    record { screen = t.screen; called = none_reported does s a.screen _ _ _ _ t.called }
+takes_silently does s LineFeed a b t =
+    record { screen = t.screen; called = none_reported does s a.screen _ _ _ _ t.called }
+takes_silently does s (ScrollUp count) a b t =
+    record { screen = t.screen; called = none_reported does s a.screen _ _ _ _ t.called }
+takes_silently does s EraseScrollback a b t =
+    record { screen = t.screen; called = none_reported does s a.screen _ _ _ _ t.called }
+takes_silently does s x a b t = ap (λ (z : act.State (Unit {0})). state s z.screen) t
+
+folds_silently : {S A : Type 0} (R : act.State (Unit {0}) → A → act.State (Unit {0}) → Type 0)
+    (T : act.State S → A → act.State S → Type 0) (s : S) →
+    ((x : A) (a b : act.State (Unit {0})) → R a x b → T (state s a.screen) x (state s b.screen)) →
+    (xs : List A) (a b : act.State (Unit {0})) → FoldsTo R a xs b → FoldsTo T (state s a.screen) xs (state s b.screen)
+folds_silently R T s same [] a b t = ap (λ (z : act.State (Unit {0})). state s z.screen) t
+folds_silently R T s same (x ∷ xs) a b t =
+    (state s t.0.screen, same x a t.0 t.1, folds_silently R T s same xs t.0 b t.2)
+
+pub ran_silently : {S : Type 0} (does : CallRelation S) (s : S) (held now : ScannerValue) (before after : ScreenValue)
+    (bytes : List ℕ) → Ran invokes_none (parser_value held before tt) bytes (parser_value now after tt) →
+    Ran does (parser_value held before s) bytes (parser_value now after s)
+ran_silently does s held now before after bytes ran state stands =
+    let one = ran state stands in (
+      one.0,
+      folds_silently (Performs invokes_none) (Performs does) s
+          (λ event a b. folds_silently (Takes invokes_none) (Takes does) s (takes_silently does s)
+          (steps_of event (seen_of a.screen)) a b)
+          (run state bytes).events (act.state tt before) (act.state tt after) one.1,
+    )
 
 -- Bytes whose events are known invoke no callbacks if all steps of these events can be taken without callbacks.
 pub silent_folds : (before after : ScreenValue) (held now : ScannerValue) (bytes : List ℕ) (events : List Event) →

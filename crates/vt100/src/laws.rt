@@ -22,6 +22,7 @@ ghost use Rattle.vt_screen.specs.Reading.{Terminal, terminal_after, terminal};
 ghost use Rattle.vt_screen.specs.Screen.{IsScreen, ScreenValue, fresh_screen};
 ghost use Rattle.vt_screen.specs.Shown.{display};
 ghost use Rattle.vt_screen.specs.States.{AreModes, HasDefaultMouseAndStyle, SetsModesPlainly};
+ghost use Rattle.vt_screen.specs.StatesWith.{SetsModesOnScreens};
 ghost use Rattle.vt_screen.specs.Streamed.{AreSameTrimmed, HasNoRis, HasWideFlags, without_scrollback, rows_of_calls, sent_off_in};
 ghost use Rattle.vt_screen.specs.Streamed.{streamed_text};
 ghost use Rattle.vt_screen.specs.CallsOfRun.{CalledOnSomeScreen, LeavesScreen, calls_in};
@@ -190,13 +191,17 @@ pub fn diffs<CB: Callbacks>()
 ///   output of `contents_formatted_reset` does so (see its clause `again`).
 /// - `state` and `state_diff` apply to output that keeps every plain terminal plain that has the
 ///   default mouse modes and cursor style or all modes of a given screen, and that sets its modes.
-///   The output of `state_formatted` and of `state_diff` does so (see their clauses `again`).
+///   The output of `state_formatted`, `state_formatted_with` and `state_diff` does so (see their
+///   clauses `again`).
+/// - `state_screens` is the same as `state_diff` for output that does so to every such terminal whose
+///   screen is valid. The output of `state_diff_with` does so (see its clause `again`).
 ///
 /// The output may be split into any chunks. Whatever the callbacks are, only
 /// `on_scroll` is invoked, for rows that scroll off the top. The inactive page
 /// and the size are unchanged. So are the input modes and the cursor style,
-/// except in the clauses `state` and `state_diff`. Therefore the next redraw of
-/// a steady screen displays that screen, whatever was drawn before.
+/// except in the clauses `state`, `state_diff` and `state_screens`. Therefore the
+/// next redraw of a steady screen displays that screen, whatever was drawn
+/// before.
 ///
 /// The premise that the parser has not failed holds after calls to `process`
 /// that returned `Ok`.
@@ -212,6 +217,9 @@ pub fn again<CB: Callbacks>()
     ensures state_diff { (was modes : Modes) (p q : ParserValue CB) (chunks : List (List ℕ)) →
         SetsModesPlainly (AreModes was) modes (pieces_joined chunks) → p.screen.modes ≡ was → IsPlainParser p →
         FoldsTo (Ran CB.does) p chunks q → q.is_failed ≡ false → IsPlainWithModes CB.does modes p q }
+    ensures state_screens { (was modes : Modes) (p q : ParserValue CB) (chunks : List (List ℕ)) →
+        SetsModesOnScreens (AreModes was) modes (pieces_joined chunks) → p.screen.modes ≡ was → IsScreen p.screen →
+        IsPlainParser p → FoldsTo (Ran CB.does) p chunks q → q.is_failed ≡ false → IsPlainWithModes CB.does modes p q }
     ensures made { (p q : ParserValue CB) (chunks : List (List ℕ)) → MakesPlain (pieces_joined chunks) →
         IsUnscrolledParser p → FoldsTo (Ran CB.does) p chunks q → q.is_failed ≡ false → IsPlainAgain CB.does p q }
 {}

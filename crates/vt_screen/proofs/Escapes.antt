@@ -14,6 +14,7 @@ use Rattle.vt_screen.specs.MadeOf.{IsMadeOf, drawing_controls, drawing_finals, e
 use Rattle.vt_screen.specs.Diffs.{diff_controls, finals_with}
 use Rattle.vt_screen.specs.MadeOf.{plain_controls, reset_controls, shortened_controls, shortened_finals}
 use Rattle.vt_screen.specs.MadeOf.{state_controls}
+use Rattle.vt_screen.specs.StatesWith.{state_diff_controls}
 use Rattle.vt_screen.specs.Escapes.{BeginsWith, EscapesOnly, HasOnlyControls, HasOnlyEscapes, is_graphic, moving_controls}
 use Rattle.vt_screen.specs.Escapes.{usual_controls}
 use Rattle.vt_screen.specs.declared.repeat.Repeat.{Repeat}
@@ -252,6 +253,12 @@ drawing_nexts = codes "[78"
 abbrev pub state_nexts : List ℕ
 state_nexts = codes "[78=>"
 
+drawing_tailed : AllByRecursion (IsTail drawing_nexts) drawing_tails
+drawing_tailed = ((inr (inl refl), refl), ((inr (inr (inl refl)), refl), ((inl refl, refl), ((inl refl, refl), ((inl refl, refl), ((inl refl, refl), tt))))))
+
+state_tailed : AllByRecursion (IsTail state_nexts) drawing_tails
+state_tailed = ((inr (inl refl), refl), ((inr (inr (inl refl)), refl), ((inl refl, refl), ((inl refl, refl), ((inl refl, refl), ((inl refl, refl), tt))))))
+
 shortened_low : AllLow shortened_finals
 shortened_low = (refl, (refl, (refl, (refl, (refl, (refl, (refl, (refl, (refl, tt)))))))))
 
@@ -259,56 +266,56 @@ drawing_low : AllLow drawing_finals
 drawing_low = (refl, (refl, (refl, (refl, tt))))
 
 -- In output with shortened cursor movements, HT may occur, too.
-shortened_only : (bytes : List ℕ) → IsOneOf bytes shortened_controls → HasOnlyControls moving_controls drawing_nexts bytes
+shortened_only : (nexts : List ℕ) → AllByRecursion (IsTail nexts) drawing_tails →
+    (bytes : List ℕ) → IsOneOf bytes shortened_controls → HasOnlyControls moving_controls nexts bytes
 unfolding encode_utf8
-shortened_only bytes (inl e) =
-    subst (HasOnlyControls moving_controls drawing_nexts) (sym e) (record {
+shortened_only nexts tails bytes (inl e) =
+    subst (HasOnlyControls moving_controls nexts) (sym e) (record {
       characters = 0x0D ∷ [];
       spelled = refl;
       only = (inr (inr (inr (inr (inl refl)))), ((λ k. absurd (apart 0x0D refl k)), tt));
     })
-shortened_only bytes (inr (inl e)) =
-    subst (HasOnlyControls moving_controls drawing_nexts) (sym e) (record {
+shortened_only nexts tails bytes (inr (inl e)) =
+    subst (HasOnlyControls moving_controls nexts) (sym e) (record {
       characters = 0x09 ∷ [];
       spelled = refl;
       only = (inr (inl refl), ((λ k. absurd (apart 0x09 refl k)), tt));
     })
-shortened_only bytes (inr (inr is)) = escapes_more drawing_nexts bytes (drawing_only drawing_nexts ((inr (inl refl), refl), ((inr (inr (inl refl)), refl), ((inl refl, refl), ((inl refl, refl), ((inl refl, refl), ((inl refl, refl), tt)))))) bytes is)
+shortened_only nexts tails bytes (inr (inr is)) = escapes_more nexts bytes (drawing_only nexts tails bytes is)
 
 pub shortened_moves_only : (text : List ℕ) → IsMadeOf shortened_finals shortened_controls text →
     HasOnlyControls moving_controls drawing_nexts text
 shortened_moves_only text made =
     made_of moving_controls drawing_nexts shortened_finals shortened_controls (escapes_more drawing_nexts)
-    (one_visible shortened_finals shortened_low drawing_nexts (inl refl)) shortened_only text made
+    (one_visible shortened_finals shortened_low drawing_nexts (inl refl)) (shortened_only drawing_nexts drawing_tailed) text made
 
 pub drawn_only : (text : List ℕ) → IsMadeOf drawing_finals drawing_controls text → HasOnlyEscapes drawing_nexts text
 drawn_only text made =
     made_only drawing_nexts drawing_finals drawing_controls
-    (one_visible drawing_finals drawing_low drawing_nexts (inl refl)) (drawing_only drawing_nexts ((inr (inl refl), refl), ((inr (inr (inl refl)), refl), ((inl refl, refl), ((inl refl, refl), ((inl refl, refl), ((inl refl, refl), tt))))))) text made
+    (one_visible drawing_finals drawing_low drawing_nexts (inl refl)) (drawing_only drawing_nexts drawing_tailed) text made
 
--- In a diff with REP, a control sequence may also end in the final byte of REP.
-repeated_only : (text : List ℕ) → IsMadeOf (0x62 ∷ drawing_finals) drawing_controls text → HasOnlyEscapes drawing_nexts text
-repeated_only text made =
-    made_only drawing_nexts (0x62 ∷ drawing_finals) drawing_controls
-    (one_visible (0x62 ∷ drawing_finals) (refl, drawing_low) drawing_nexts (inl refl)) (drawing_only drawing_nexts ((inr (inl refl), refl), ((inr (inr (inl refl)), refl), ((inl refl, refl), ((inl refl, refl), ((inl refl, refl), ((inl refl, refl), tt))))))) text made
+finals_low : (repeat : Repeat) (scroll : Bool) → AllLow (finals_with repeat scroll)
+finals_low Never false = drawing_low
+finals_low Ascii false = (refl, drawing_low)
+finals_low Any false = (refl, drawing_low)
+finals_low Never true = shortened_low
+finals_low Ascii true = (refl, shortened_low)
+finals_low Any true = (refl, shortened_low)
 
-moved_repeated_only : (text : List ℕ) → IsMadeOf (0x62 ∷ shortened_finals) shortened_controls text →
-    HasOnlyControls moving_controls drawing_nexts text
-moved_repeated_only text made =
-    made_of moving_controls drawing_nexts (0x62 ∷ shortened_finals) shortened_controls (escapes_more drawing_nexts)
-    (one_visible (0x62 ∷ shortened_finals) (refl, shortened_low) drawing_nexts (inl refl)) shortened_only text made
-
+-- In a diff with options, a control sequence may also end in the final byte of REP.
 pub with_options_only : (repeat : Repeat) (text : List ℕ) → IsMadeOf (finals_with repeat false) (diff_controls false) text →
     HasOnlyEscapes drawing_nexts text
-with_options_only Never text made = drawn_only text made
-with_options_only Ascii text made = repeated_only text made
-with_options_only Any text made = repeated_only text made
+with_options_only repeat text made =
+    made_only drawing_nexts (finals_with repeat false) drawing_controls
+    (one_visible (finals_with repeat false) (finals_low repeat false) drawing_nexts (inl refl))
+    (drawing_only drawing_nexts drawing_tailed) text made
 
 pub with_scrolling_only : (repeat : Repeat) (text : List ℕ) → IsMadeOf (finals_with repeat true) (diff_controls true) text →
     HasOnlyControls moving_controls drawing_nexts text
-with_scrolling_only Never text made = shortened_moves_only text made
-with_scrolling_only Ascii text made = moved_repeated_only text made
-with_scrolling_only Any text made = moved_repeated_only text made
+with_scrolling_only repeat text made =
+    made_of moving_controls drawing_nexts (finals_with repeat true) shortened_controls (escapes_more drawing_nexts)
+    (one_visible (finals_with repeat true) (finals_low repeat true) drawing_nexts (inl refl))
+    (shortened_only drawing_nexts drawing_tailed) text made
 
 pub reset_only : (text : List ℕ) → IsMadeOf drawing_finals reset_controls text → HasOnlyEscapes drawing_nexts text
 reset_only text made =
@@ -320,20 +327,44 @@ reset_only text made =
         HasOnlyEscapes drawing_nexts bytes
     by_kind bytes (inl is) =
         tails_only drawing_nexts reset_tails ((inl refl, refl), ((inl refl, refl), tt)) bytes is
-    by_kind bytes (inr is) = drawing_only drawing_nexts ((inr (inl refl), refl), ((inr (inr (inl refl)), refl), ((inl refl, refl), ((inl refl, refl), ((inl refl, refl), ((inl refl, refl), tt)))))) bytes is
+    by_kind bytes (inr is) = drawing_only drawing_nexts drawing_tailed bytes is
 
 -- In output that also sets input modes, `=` and `>` may follow ESC, too.
+input_only : (bytes : List ℕ) → IsOneOf bytes input_controls → HasOnlyEscapes state_nexts bytes
+input_only bytes is =
+    tails_only state_nexts input_tails ((inr (inr (inr (inl refl))), refl), ((inr (inr (inr (inr (inl refl)))), refl), ((inl refl, refl), ((inl refl, refl), ((inl refl, refl), ((inl refl, refl), ((inl refl, refl), ((inl refl, refl), ((inl refl, refl), ((inl refl, refl), ((inl refl, refl), ((inl refl, refl), ((inl refl, refl), ((inl refl, refl), ((inl refl, refl), ((inl refl, refl), ((inl refl, refl), ((inl refl, refl), ((inl refl, refl), ((inl refl, refl), ((inl refl, refl), ((inl refl, refl), ((inl refl, refl), ((inl refl, refl), ((inl refl, refl), tt))))))))))))))))))))))))) bytes is
+
+state_control_only : (bytes : List ℕ) → IsOneOf bytes state_controls → HasOnlyEscapes state_nexts bytes
+state_control_only bytes is = by_kind (either bytes input_controls drawing_controls is) where
+  by_kind : IsOneOf bytes input_controls ⊎ IsOneOf bytes drawing_controls → HasOnlyEscapes state_nexts bytes
+  by_kind (inl is) = input_only bytes is
+  by_kind (inr is) = drawing_only state_nexts state_tailed bytes is
+
 pub state_only : (text : List ℕ) → IsMadeOf drawing_finals state_controls text → HasOnlyEscapes state_nexts text
 state_only text made =
     made_only state_nexts drawing_finals state_controls
-    (one_visible drawing_finals drawing_low state_nexts (inl refl))
-    (λ bytes is. by_kind bytes (either bytes input_controls drawing_controls is)) text made
-  where
-    by_kind : (bytes : List ℕ) → IsOneOf bytes input_controls ⊎ IsOneOf bytes drawing_controls →
-        HasOnlyEscapes state_nexts bytes
-    by_kind bytes (inl is) =
-        tails_only state_nexts input_tails ((inr (inr (inr (inl refl))), refl), ((inr (inr (inr (inr (inl refl)))), refl), ((inl refl, refl), ((inl refl, refl), ((inl refl, refl), ((inl refl, refl), ((inl refl, refl), ((inl refl, refl), ((inl refl, refl), ((inl refl, refl), ((inl refl, refl), ((inl refl, refl), ((inl refl, refl), ((inl refl, refl), ((inl refl, refl), ((inl refl, refl), ((inl refl, refl), ((inl refl, refl), ((inl refl, refl), ((inl refl, refl), ((inl refl, refl), ((inl refl, refl), ((inl refl, refl), ((inl refl, refl), ((inl refl, refl), tt))))))))))))))))))))))))) bytes is
-    by_kind bytes (inr is) = drawing_only state_nexts ((inr (inl refl), refl), ((inr (inr (inl refl)), refl), ((inl refl, refl), ((inl refl, refl), ((inl refl, refl), ((inl refl, refl), tt)))))) bytes is
+    (one_visible drawing_finals drawing_low state_nexts (inl refl)) state_control_only text made
+
+-- In output that may also move rows or columns, or shorten movements, HT may occur, too.
+moving_control_only : (bytes : List ℕ) → IsOneOf bytes (state_diff_controls true) →
+    HasOnlyControls moving_controls state_nexts bytes
+moving_control_only bytes is = by_kind (either bytes input_controls shortened_controls is) where
+  by_kind : IsOneOf bytes input_controls ⊎ IsOneOf bytes shortened_controls →
+      HasOnlyControls moving_controls state_nexts bytes
+  by_kind (inl is) = escapes_more state_nexts bytes (input_only bytes is)
+  by_kind (inr is) = shortened_only state_nexts state_tailed bytes is
+
+pub state_with_options_only : (repeat : Repeat) (text : List ℕ) →
+    IsMadeOf (finals_with repeat false) (state_diff_controls false) text → HasOnlyEscapes state_nexts text
+state_with_options_only repeat text made =
+    made_only state_nexts (finals_with repeat false) (state_diff_controls false)
+    (one_visible (finals_with repeat false) (finals_low repeat false) state_nexts (inl refl)) state_control_only text made
+
+pub state_with_scrolling_only : (repeat : Repeat) (text : List ℕ) →
+    IsMadeOf (finals_with repeat true) (state_diff_controls true) text → HasOnlyControls moving_controls state_nexts text
+state_with_scrolling_only repeat text made =
+    made_of moving_controls state_nexts (finals_with repeat true) (state_diff_controls true) (escapes_more state_nexts)
+    (one_visible (finals_with repeat true) (finals_low repeat true) state_nexts (inl refl)) moving_control_only text made
 
 -- In captures, only `[` follows ESC; plain text contains no ESC.
 line_only : (nexts bytes : List ℕ) → IsOneOf bytes plain_controls → HasOnlyEscapes nexts bytes

@@ -10,7 +10,7 @@ use Rattle.vt_redraw.specs.declared.form.Form.{Form}
 use Rattle.vt_redraw.proofs.Difference.{difference_draws_in}
 use Rattle.vt_redraw.proofs.EmptyDifference.{showing_plain, difference_self_in}
 use Rattle.vt_redraw.proofs.EmptyDifference as canvas
-use Rattle.vt_redraw.proofs.Fitting.{difference_fits_in, picture_counted, redraw_fits_in}
+use Rattle.vt_redraw.proofs.Fitting.{difference_fits_in, redraw_fits_in, rows_counted}
 use Rattle.vt_redraw.proofs.Redrawing.{redraw_draws_in, page_picture}
 use Rattle.vt_redraw.proofs.Saving.{difference_safe_in, redraw_safe_in}
 use Rattle.vt_screen.specs.Again.{KeepsPlain}
@@ -35,7 +35,8 @@ pub difference_valid : (form : Form) (self prev : ScreenValue) → IsScreen self
 difference_valid form self prev is colored other colored_other =
     difference_fits_in form (display self) (display prev) (shown_is self is) (shown_colored self is colored)
     colored_other.attrs
-    (picture_counted form (display prev) (shown_is prev other) (shown_colored prev other colored_other).columns)
+    (rows_counted form (display prev).width (display prev).rows (shown_is prev other).rows
+    (shown_colored prev other colored_other).columns)
 
 -- ---- redraws
 

@@ -17,6 +17,7 @@ pub mod CursorRead
 pub mod InputRead
 pub mod StateRead
 pub mod StatesAgain
+pub mod StatesWith
 pub mod Stable
 pub mod StableMoves
 mod Coloring
@@ -43,6 +44,7 @@ pub mod TouchedReads
 pub mod TouchedTexts
 mod Captures
 pub mod MadeOf
+pub mod MovedMade
 pub mod MadePlain
 pub mod Escapes
 pub mod CaptureTexts
@@ -84,6 +86,7 @@ pub mod ElementsRead
 pub mod Numbers
 pub mod ShortMovesRead
 pub mod OrRedraw
+pub mod PortableBands
 pub mod PortableElements
 pub mod PortableOutputs
 pub mod PortableExamples

@@ -1,6 +1,6 @@
 -- The output of valid operations consists of characters and the controls used for drawing.
-use Rattle.std.proofs.Common.{◌≡◌, inl, inr, ℕ, zero, suc, ◌+◌, ◌-◌, ◌<◌, ◌≤◌, ◌==◌, Bool, true, false, List, [], ◌∷◌, ◌++◌}
-use Rattle.std.proofs.Common.{refl, sym, ap, ap₂, subst, ◌∙◌, append_assoc, append-nil, arith, codes, if◌then◌else◌, length}
+use Rattle.std.proofs.Common.{◌≡◌, inl, inr, ℕ, zero, suc, ◌+◌, ◌-◌, ◌<◌, ◌≤◌, Bool, true, false, List, [], ◌∷◌, ◌++◌}
+use Rattle.std.proofs.Common.{refl, sym, ap, ap₂, subst, ◌∙◌, append_assoc, append-nil, arith, if◌then◌else◌, length}
 use Rattle.std.specs.List.{AllByRecursion, flat_map}
 use Rattle.vt_cells.specs.Attrs.{default_attrs, same_attrs, Attrs}
 use Rattle.vt_cells.specs.Op.{Op, Hide, ClearAttrs, MoveTo, MoveRight, NextRow, LineFeed, Backspace, EraseBelow}
@@ -26,15 +26,8 @@ use Rattle.vt_cells.specs.declared.modes.MouseProtocolEncoding.{MouseProtocolEnc
 use Rattle.vt_cells.specs.declared.modes.MouseProtocolEncoding.TheVariants as encoding
 use Rattle.vt_cells.specs.declared.modes.MouseProtocolMode.{MouseProtocolMode}
 use Rattle.vt_cells.specs.declared.modes.MouseProtocolMode.TheVariants as mouse
-use Rattle.vt_redraw.specs.declared.band.Band.{Band}
 use Rattle.vt_redraw.specs.Items.{is_linked, item_of_difference, item_of_redraw}
 use Rattle.vt_redraw.specs.Locality.{row_of_picture}
-use Rattle.vt_redraw.specs.Moved.{IsScrolling, band_text, down_text, lines_deleted_text, lines_inserted_text}
-use Rattle.vt_redraw.specs.Moved.{picture_after_move, moving_text, scrolling_text, up_text}
-use Rattle.vt_redraw.specs.Script.{attr_ops, attr_ops_in}
-use Rattle.vt_redraw.specs.Shifted.{IsMoving, in_default_attrs, shift_text, shifted_all, shifting_text, shifts_text}
-use Rattle.vt_redraw.specs.declared.row_shift.RowShift.{RowShift}
-use Rattle.vt_redraw.proofs.Shifting.{attrs_shifted}
 use Rattle.vt_redraw.proofs.ItemFits.{difference_item_fits, redraw_item_fits}
 use Rattle.vt_screen.specs.InputTexts.{input_change, input_text, mouse_and_style_text, where_changed}
 use Rattle.vt_screen.specs.RowsShown.{changed_text, formatted_text}
@@ -203,81 +196,6 @@ reset_made screen is colored =
     (made_more drawing_finals drawing_finals drawing_controls reset_controls (λ x one. one)
     (λ x one. inr (inr one)) (shown_text screen) (redraw_made screen is colored))
 
--- ---- moving rows
-
--- The final bytes of the control sequences in drawing output that moves rows or columns, before its cursor movements are
--- shortened: those of ICH, DCH, IL and DL, and those in `drawing_finals`.
-abbrev pub scrolling_finals : List ℕ
-scrolling_finals = codes "@PLMHCXm"
-
-abbrev IsScrollingText : List ℕ → Type 0
-IsScrollingText text = IsMadeOf scrolling_finals drawing_controls text
-
-drawing_scrolls : (text : List ℕ) → IsMadeOf drawing_finals drawing_controls text → IsScrollingText text
-drawing_scrolls text made =
-    made_more drawing_finals scrolling_finals drawing_controls drawing_controls (λ x one. inr (inr (inr (inr one))))
-    (λ x one. one) text made
-
--- The cursor moves to a position, and rows or columns are deleted or inserted there.
-placed_made : (count row col final : ℕ) → IsOneOf final scrolling_finals →
-    IsScrollingText (csi (place row col) 0x48 ++ counted count final)
-placed_made count row col final is =
-    made_append scrolling_finals drawing_controls (csi (place row col) 0x48) (counted count final)
-    (made_place scrolling_finals drawing_controls row col 0x48 (inr (inr (inr (inr (inl refl))))))
-    (made_counted scrolling_finals drawing_controls count final is)
-
-deleted_made : (row count : ℕ) → IsScrollingText (lines_deleted_text row count)
-deleted_made row count = placed_made count row 0 0x4D (inr (inr (inr (inl refl))))
-
-inserted_made : (row count : ℕ) → IsScrollingText (lines_inserted_text row count)
-inserted_made row count = placed_made count row 0 0x4C (inr (inr (inl refl)))
-
-band_made : (height : ℕ) (band : Band) → IsScrollingText (band_text height band)
-unfolding up_text down_text
-band_made height band =
-    made_if scrolling_finals drawing_controls band.up (up_text height band) (down_text height band)
-    (made_if scrolling_finals drawing_controls (band.bottom == height) (lines_deleted_text band.top band.count) _
-    (deleted_made band.top band.count)
-    (made_append scrolling_finals drawing_controls (lines_deleted_text band.top band.count)
-    (lines_inserted_text (band.bottom - band.count) band.count)
-    (deleted_made band.top band.count) (inserted_made (band.bottom - band.count) band.count)))
-    (made_if scrolling_finals drawing_controls (band.bottom == height) (lines_inserted_text band.top band.count) _
-    (inserted_made band.top band.count)
-    (made_append scrolling_finals drawing_controls (lines_deleted_text (band.bottom - band.count) band.count)
-    (lines_inserted_text band.top band.count)
-    (deleted_made (band.bottom - band.count) band.count) (inserted_made band.top band.count)))
-
-attr_ops_made : (was new : Attrs) → IsMadeOf drawing_finals drawing_controls (bytes_of_all (attr_ops was new))
-unfolding attr_ops_in
-attr_ops_made was new = by_same (same_attrs was new) where
-  by_same : (b : Bool) →
-      IsMadeOf drawing_finals drawing_controls (bytes_of_all (if b then [] else ChangeAttrs was new ∷ []))
-  by_same true = made_nothing drawing_finals drawing_controls
-  by_same false =
-      made_append drawing_finals drawing_controls (change_text was new) []
-      (made_change drawing_finals drawing_controls was new (inr (inr (inr (inl refl)))))
-      (made_nothing drawing_finals drawing_controls)
-
-scrolled_made : (screen prev : ScreenValue) (band : Band) → IsScreen screen → IsColored screen →
-    IsScrollingText (scrolling_text band (display screen) (display prev))
-scrolled_made screen prev band is colored =
-    made_append scrolling_finals drawing_controls (moving_text band (display prev))
-    (bytes_of_all (difference (display screen) (picture_after_move band (display prev))))
-    (made_append scrolling_finals drawing_controls (bytes_of_all (attr_ops (display prev).attrs default_attrs))
-    (band_text (length (display prev).rows) band)
-    (drawing_scrolls (bytes_of_all (attr_ops (display prev).attrs default_attrs))
-    (attr_ops_made (display prev).attrs default_attrs)) (band_made (length (display prev).rows) band))
-    (drawing_scrolls (bytes_of_all (difference (display screen) (picture_after_move band (display prev))))
-    (made_ops (difference (display screen) (picture_after_move band (display prev)))
-    (difference_fits (display screen) (picture_after_move band (display prev)) (shown_is screen is) (shown_colored screen is colored) (tt, tt))))
-
-pub scrolling_made : (screen prev : ScreenValue) (text : List ℕ) → IsScreen screen → IsColored screen →
-    IsColored prev → IsScrolling (display screen) (display prev) text → IsMadeOf scrolling_finals drawing_controls text
-scrolling_made screen prev text is colored other (inl told) =
-    subst IsScrollingText (sym told) (drawing_scrolls (display_change prev screen) (difference_made screen prev is colored other))
-scrolling_made screen prev text is colored other (inr it) =
-    subst IsScrollingText (sym it.2) (scrolled_made screen prev it.0 is colored)
-
 -- ---- with input modes
 
 abbrev SetsInput : List ℕ → Type 0
@@ -428,24 +346,26 @@ input_change_made was new =
     (paste_made new.bracketed_paste))
     (mouse_and_style_made was new)))
 
-state_of_both : (drawn modes : List ℕ) → IsMadeOf drawing_finals drawing_controls drawn → SetsInput modes →
-    IsMadeOf drawing_finals state_controls (drawn ++ modes)
-state_of_both drawn modes d m =
-    made_append drawing_finals state_controls drawn modes
-    (made_more drawing_finals drawing_finals drawing_controls state_controls (λ x one. one)
-    (λ x one. one_of_later x input_controls drawing_controls one) drawn d)
-    (made_more [] drawing_finals input_controls state_controls (λ x one. absurd one)
-    (λ x one. one_of_before x input_controls drawing_controls one) modes m)
+-- Drawing output followed by output that sets input modes.
+pub state_of_both : (finals : List ℕ) (controls : List (List ℕ)) (drawn modes : List ℕ) →
+    IsMadeOf finals controls drawn → SetsInput modes → IsMadeOf finals (input_controls ++ controls) (drawn ++ modes)
+state_of_both finals controls drawn modes d m =
+    made_append finals (input_controls ++ controls) drawn modes
+    (made_more finals finals controls (input_controls ++ controls) (λ x one. one)
+    (λ x one. one_of_later x input_controls controls one) drawn d)
+    (made_more [] finals input_controls (input_controls ++ controls) (λ x one. absurd one)
+    (λ x one. one_of_before x input_controls controls one) modes m)
 
 pub state_made : (screen : ScreenValue) → IsScreen screen → IsColored screen →
     IsMadeOf drawing_finals state_controls (state_text screen)
 state_made screen is colored =
-    state_of_both (shown_text screen) (input_text screen.modes) (redraw_made screen is colored) (input_made screen.modes)
+    state_of_both drawing_finals drawing_controls (shown_text screen) (input_text screen.modes)
+    (redraw_made screen is colored) (input_made screen.modes)
 
 pub state_change_made : (screen prev : ScreenValue) → IsScreen screen → IsColored screen → IsColored prev →
     IsMadeOf drawing_finals state_controls (state_change prev screen)
 state_change_made screen prev is colored other =
-    state_of_both (display_change prev screen) (input_change prev.modes screen.modes)
+    state_of_both drawing_finals drawing_controls (display_change prev screen) (input_change prev.modes screen.modes)
     (difference_made screen prev is colored other) (input_change_made prev.modes screen.modes)
 
 -- ---- rows one by one
@@ -469,36 +389,3 @@ row_change_made screen prev r start_ stop is colored low le inside =
     made_ops (item_of_difference r start_ stop (row_of_picture picture r) (row_of_picture (display prev) r)).ops
     (difference_item_fits picture r start_ stop (row_of_picture (display prev) r)
     (shown_is screen is) (shown_colored screen is colored) (omega arith) le inside)
-
--- ---- shifting columns
-
-shift_made : (insert : Bool) (count row col : ℕ) →
-    IsScrollingText (shift_text (record { row = row; col = col; count = count; insert = insert }))
-shift_made true count row col = placed_made count row col 0x40 (inl refl)
-shift_made false count row col = placed_made count row col 0x50 (inr (inl refl))
-
-shifts_made : (shifts : List RowShift) → IsScrollingText (shifts_text shifts)
-shifts_made [] = made_nothing scrolling_finals drawing_controls
-shifts_made (shift ∷ shifts) =
-    made_append scrolling_finals drawing_controls (shift_text shift) (shifts_text shifts)
-    (shift_made shift.insert shift.count shift.row shift.col) (shifts_made shifts)
-
-shifted_made : (screen prev : ScreenValue) (shifts : List RowShift) → IsScreen screen → IsColored screen →
-    IsScrollingText (shifting_text shifts (display screen) (display prev))
-shifted_made screen prev shifts is colored =
-    let between = shifted_all shifts (in_default_attrs (display prev)) in
-    let change = bytes_of_all (attr_ops (display prev).attrs default_attrs) in
-    let rest = bytes_of_all (difference (display screen) between) in
-    made_append scrolling_finals drawing_controls change (shifts_text shifts ++ rest)
-    (drawing_scrolls change (attr_ops_made (display prev).attrs default_attrs))
-    (made_append scrolling_finals drawing_controls (shifts_text shifts) rest (shifts_made shifts)
-    (drawing_scrolls rest
-    (made_ops (difference (display screen) between)
-    (difference_fits (display screen) between (shown_is screen is) (shown_colored screen is colored)
-    (subst FitsAttrs (sym (attrs_shifted shifts (in_default_attrs (display prev)))) (tt, tt))))))
-
-pub moving_made : (screen prev : ScreenValue) (text : List ℕ) → IsScreen screen → IsColored screen →
-    IsColored prev → IsMoving (display screen) (display prev) text → IsMadeOf scrolling_finals drawing_controls text
-moving_made screen prev text is colored other (inl told) = scrolling_made screen prev text is colored other told
-moving_made screen prev text is colored other (inr it) =
-    subst IsScrollingText (sym it.bytes) (shifted_made screen prev (it.first ∷ it.rest) is colored)

@@ -9,22 +9,24 @@ use Rattle.vt_cells.specs.Op.{FitsAttrs, bytes_of_all, counted}
 use Rattle.vt_grid.specs.declared.page_step.PageStep.TheVariants as page
 use Rattle.vt_redraw.specs.Moved.{IsBand, IsScrolling, band_text, down_text, lines_deleted_text, lines_inserted_text}
 use Rattle.vt_redraw.specs.Moved.{picture_after_move, scrolling_text, up_text}
-use Rattle.vt_redraw.specs.Redraw.{difference}
+use Rattle.vt_redraw.specs.Redraw.{difference_in}
 use Rattle.vt_redraw.specs.Script.{attr_ops, attr_ops_in}
 use Rattle.vt_redraw.specs.declared.band.Band.{Band}
-use Rattle.vt_redraw.proofs.Fitting.{difference_fits}
-use Rattle.vt_redraw.proofs.Saving.{difference_safe}
+use Rattle.vt_redraw.specs.declared.form.Form.{Form}
+use Rattle.vt_redraw.proofs.Moving.{moved_fits}
+use Rattle.vt_redraw.proofs.Saving.{difference_safe_in}
 use Rattle.vt_scan.specs.Automaton.{start}
 use Rattle.vt_screen.specs.Again.{KeepsPlain}
 use Rattle.vt_screen.specs.CallsOfRun.{screen_in}
 use Rattle.vt_screen.specs.Screen.{IsColored, IsScreen, ScreenValue}
 use Rattle.vt_screen.specs.Shown.{ReadsTo, display}
 use Rattle.vt_screen.specs.Steps.{OnPage, display_after}
+use Rattle.vt_screen.proofs.Forms.{difference_keeps_in}
 use Rattle.vt_screen.proofs.Framing.{framed_lines_deleted, framed_lines_inserted}
 use Rattle.vt_screen.proofs.MovedRead.{deleted_read, inserted_read}
 use Rattle.vt_screen.proofs.Shown.{shown_colored, shown_is}
 use Rattle.vt_screen.proofs.Sizes.{same_lines_deleted, same_lines_inserted}
-use Rattle.vt_screen.proofs.PlainAgain.{Goes, Holds, difference_keeps, goes_read, goes_then, held, leaves}
+use Rattle.vt_screen.proofs.PlainAgain.{Goes, Holds, goes_read, goes_then, held, leaves}
 use Rattle.vt_screen.proofs.PlainAgain.{nothing_goes, op_goes, ops_go, plain_holds}
 
 -- ---- bands that move first
@@ -100,29 +102,30 @@ change_goes was reader screen fits h = by_same (same_attrs was default_attrs)
         goes_then false false reader screen (bytes_of (ChangeAttrs was default_attrs)) [] first
         (nothing_goes false reader (screen_in start screen (bytes_of (ChangeAttrs was default_attrs))) first.holds)
 
-scrolled_keeps : (screen prev : ScreenValue) (band : Band) → IsScreen screen → IsColored screen → IsScreen prev →
-    IsColored prev → IsBand (length (display prev).rows) band →
-    KeepsPlain (scrolling_text band (display screen) (display prev))
-scrolled_keeps screen prev band is colored sound other inside reader plain =
+scrolled_keeps : (form : Form) (screen prev : ScreenValue) (band : Band) → IsScreen screen → IsColored screen →
+    IsScreen prev → IsColored prev → IsBand (length (display prev).rows) band →
+    KeepsPlain (scrolling_text form band (display screen) (display prev))
+scrolled_keeps form screen prev band is colored sound other inside reader plain =
     let height = length (display prev).rows in
     let change = bytes_of_all (attr_ops (display prev).attrs default_attrs) in
     let band_moves = band_text height band in
-    let rest_ops = difference (display screen) (picture_after_move band (display prev)) in
+    let rest_ops = difference_in form (display screen) (picture_after_move band (display prev)) in
     let one = change_goes (display prev).attrs reader reader other.attrs (plain_holds reader plain) in
-    let two = band_goes height band reader (screen_in start reader change) (shown_colored prev sound other).height
-    inside one.holds in
+    let sized = shown_colored prev sound other in
+    let two = band_goes height band reader (screen_in start reader change) sized.height inside one.holds in
     let both = goes_then false false reader reader change band_moves one two in
     let rest = ops_go rest_ops false reader (screen_in start reader (change ++ band_moves))
-    (difference_fits (display screen) (picture_after_move band (display prev)) (shown_is screen is) (shown_colored screen is colored) (tt, tt))
-    (difference_safe (display screen) (picture_after_move band (display prev)) false) both.holds in
-    leaves reader (scrolling_text band (display screen) (display prev)) (record {
+    (moved_fits form (display screen) (display prev) band (shown_is screen is) (shown_colored screen is colored)
+    (shown_is prev sound) sized.columns)
+    (difference_safe_in form (display screen) (picture_after_move band (display prev)) false) both.holds in
+    leaves reader (scrolling_text form band (display screen) (display prev)) (record {
       saved = rest.saved;
       goes = goes_then false rest.saved reader reader (change ++ band_moves) (bytes_of_all rest_ops) both rest.goes;
     })
 
-pub scrolling_keeps : (screen prev : ScreenValue) (text : List ℕ) → IsScreen screen → IsColored screen →
-    IsScreen prev → IsColored prev → IsScrolling (display screen) (display prev) text → KeepsPlain text
-scrolling_keeps screen prev text is colored sound other (inl told) =
-    subst KeepsPlain (sym told) (difference_keeps screen prev is colored other)
-scrolling_keeps screen prev text is colored sound other (inr it) =
-    subst KeepsPlain (sym it.2) (scrolled_keeps screen prev it.0 is colored sound other it.1)
+pub scrolling_keeps : (form : Form) (screen prev : ScreenValue) (text : List ℕ) → IsScreen screen → IsColored screen →
+    IsScreen prev → IsColored prev → IsScrolling form (display screen) (display prev) text → KeepsPlain text
+scrolling_keeps form screen prev text is colored sound other (inl told) =
+    subst KeepsPlain (sym told) (difference_keeps_in form screen prev is colored sound other)
+scrolling_keeps form screen prev text is colored sound other (inr it) =
+    subst KeepsPlain (sym it.2) (scrolled_keeps form screen prev it.0 is colored sound other it.1)

@@ -16,14 +16,14 @@ use Rattle.vt_grid.proofs.Pages.{length-moved_rows, page_at, page_of_rows}
 use Rattle.vt_redraw.specs.Moved.{IsBand, IsScrolling, band_text, down_text, last_moved, picture_after_move}
 use Rattle.vt_redraw.specs.Moved.{lines_deleted_text, lines_inserted_text, moving_text, rows_moved, scrolling_text, up_text}
 use Rattle.vt_redraw.specs.Picture.{Picture, SamePictureSize, picture_of, with_picture}
-use Rattle.vt_redraw.specs.Redraw.{difference}
+use Rattle.vt_redraw.specs.Redraw.{difference_in}
 use Rattle.vt_redraw.specs.Script.{attr_ops}
 use Rattle.vt_redraw.specs.Steady.{IsSteady}
 use Rattle.vt_redraw.specs.declared.band.Band.{Band}
+use Rattle.vt_redraw.specs.declared.form.Form.{Form}
 use Rattle.vt_redraw.proofs.BandPages.{deleted_is, down_between, down_moved, inserted_is, page_at_row, up_between, up_moved}
-use Rattle.vt_redraw.proofs.Difference.{difference_draws}
-use Rattle.vt_redraw.proofs.Fitting.{difference_fits}
-use Rattle.vt_redraw.proofs.Moving.{All-rows_moved, length-rows_moved, row_or-rows_moved}
+use Rattle.vt_redraw.proofs.Difference.{difference_draws_in}
+use Rattle.vt_redraw.proofs.Moving.{All-rows_moved, length-rows_moved, moved_fits, row_or-rows_moved}
 use Rattle.vt_redraw.proofs.Redrawing.{page_picture}
 use Rattle.vt_redraw.proofs.Writing.{change_written}
 use Rattle.vt_scan.specs.Automaton.{start}
@@ -35,9 +35,9 @@ use Rattle.vt_screen.specs.Steps.{OnPage, display_after}
 use Rattle.vt_screen.proofs.Became.{redraws}
 use Rattle.vt_screen.proofs.Readback.{changed_read, counted_read, moved_to_read}
 use Rattle.vt_screen.proofs.ReadbackTexts.{reads_then}
-use Rattle.vt_screen.proofs.Redrawing.{Becomes, difference_read, drawing_read}
+use Rattle.vt_screen.proofs.Forms.{difference_none_in, difference_redraws_in, difference_tells_in}
+use Rattle.vt_screen.proofs.Redrawing.{Becomes, drawing_read}
 use Rattle.vt_screen.proofs.Shown.{plain_shown, shown_colored, shown_height, shown_is}
-use Rattle.vt_screen.proofs.EqualTexts.{difference_none, difference_tells}
 
 -- ---- deleting and inserting rows
 
@@ -199,7 +199,7 @@ band_when false false band screen u e plain tall is =
 -- ---- the terminal after the move
 
 -- The terminal after it was changed to display a picture; its other parts are unchanged.
-abbrev with_shown : Picture → ScreenValue → ScreenValue
+abbrev pub with_shown : Picture → ScreenValue → ScreenValue
 with_shown picture reader = with_canvas (with_picture picture (canvas_of reader)) reader
 
 pub change_read : (reader : ScreenValue) →
@@ -210,7 +210,7 @@ change_read reader =
     ∙ ap (λ (attrs : Attrs). Some (terminal start (record reader { attrs = attrs })))
     (changed_attrs-new reader.attrs default_attrs))
 
-moving_read : (band : Band) (reader : ScreenValue) → IsScreen reader → IsPlain reader
+pub moving_read : (band : Band) (reader : ScreenValue) → IsScreen reader → IsPlain reader
     → IsBand (length reader.page.rows) band
     → ReadsTo (moving_text band (picture_of (canvas_of reader))) reader
     (with_shown (picture_after_move band (picture_of (canvas_of reader))) reader)
@@ -264,46 +264,59 @@ moved_screen band reader is inside = record {
   last = is.last;
 }
 
+-- The terminal after the move can display the picture.
+pub record IsReadyAfterMove (picture : Picture) (reader : ScreenValue) (band : Band) : Type 0 where
+  pub sound : IsScreen (with_shown (picture_after_move band (picture_of (canvas_of reader))) reader)
+  pub size : SamePictureSize picture (picture_after_move band (picture_of (canvas_of reader)))
+  pub plain : IsPlainPage
+      (page_at_row (rows_moved reader.page.width band reader.page.rows) (last_moved (length reader.page.rows) band)
+      reader.page)
+
+pub ready_after_move : (picture : Picture) (reader : ScreenValue) (band : Band) → IsReader picture reader →
+    IsBand (length reader.page.rows) band → IsReadyAfterMove picture reader band
+ready_after_move picture reader band r inside =
+    let size = length-rows_moved reader.page.width band reader.page.rows in
+    record {
+      sound = moved_screen band reader r.sound inside;
+      size = record { width = r.size.width; height = r.size.height ∙ (shown_height reader ∙ sym size) };
+      plain = plain_rows (rows_moved reader.page.width band reader.page.rows)
+          (last_moved (length reader.page.rows) band) reader.page size r.plain.page;
+    }
+
 -- ---- the whole output
 
-moved_becomes : (self reader : ScreenValue) (band : Band) → IsScreen self → IsColored self → IsSteady (display self)
-    → IsReader (display self) reader → IsBand (length reader.page.rows) band
-    → Becomes (display self) (scrolling_text band (display self) (picture_of (canvas_of reader))) reader
-moved_becomes self reader band is colored steady r inside =
+moved_becomes : (form : Form) (self reader : ScreenValue) (band : Band) → IsScreen self → IsColored self
+    → IsSteady (display self) → IsReader (display self) reader → IsBand (length reader.page.rows) band
+    → Becomes (display self) (scrolling_text form band (display self) (picture_of (canvas_of reader))) reader
+moved_becomes form self reader band is colored steady r inside =
     let picture = display self in
     let before = picture_of (canvas_of reader) in
     let between = picture_after_move band before in
     let next = with_shown between reader in
-    let sound = moved_screen band reader r.sound inside in
-    let size = length-rows_moved reader.page.width band reader.page.rows in
-    let same : SamePictureSize picture between = record {
-      width = r.size.width;
-      height = r.size.height ∙ (shown_height reader ∙ sym size);
-    } in
-    let plain = plain_rows (rows_moved reader.page.width band reader.page.rows)
-    (last_moved (length reader.page.rows) band) reader.page size r.plain.page in
-    let b : Becomes picture (bytes_of_all (difference picture between)) next =
-    drawing_read (difference picture between) picture next
-    (difference_fits picture between (shown_is self is) (shown_colored self is colored) (tt, tt))
-    (difference_draws picture between (canvas_of next) (shown_is self is) steady
-    (page_picture (canvas_of next) sound.page) same plain refl) in
+    let ready = ready_after_move picture reader band r inside in
+    let b : Becomes picture (bytes_of_all (difference_in form picture between)) next =
+    drawing_read (difference_in form picture between) picture next
+    (moved_fits form picture before band (shown_is self is) (shown_colored self is colored)
+    (page_picture (canvas_of reader) r.sound.page) r.sound.page.columns)
+    (difference_draws_in form picture between (canvas_of next) (shown_is self is) steady
+    (page_picture (canvas_of next) ready.sound.page) ready.size ready.plain refl) in
     record {
       saved = b.saved;
       last = b.last;
       reads =
           reads_then (terminal start reader) (terminal start next) _ (moving_text band before)
-          (bytes_of_all (difference picture between))
+          (bytes_of_all (difference_in form picture between))
           (moving_read band reader r.sound r.plain inside) b.reads;
     }
 
-scrolling_read : (self prev reader : ScreenValue) (band : Band) → IsScreen self → IsColored self
+scrolling_read : (form : Form) (self prev reader : ScreenValue) (band : Band) → IsScreen self → IsColored self
     → IsSteady (display self) → IsReaderOf (display self) (display prev) reader → IsBand (length (display prev).rows) band
-    → Becomes (display self) (scrolling_text band (display self) (display prev)) reader
-scrolling_read self prev reader band is colored steady r inside =
+    → Becomes (display self) (scrolling_text form band (display self) (display prev)) reader
+scrolling_read form self prev reader band is colored steady r inside =
     let page = plain_shown reader r.is.sound r.is.plain in
     let e : picture_of (canvas_of reader) ≡ display prev = sym page ∙ r.shows in
-    subst (λ (p : Picture). Becomes (display self) (scrolling_text band (display self) p) reader) e
-    (moved_becomes self reader band is colored steady r.is
+    subst (λ (p : Picture). Becomes (display self) (scrolling_text form band (display self) p) reader) e
+    (moved_becomes form self reader band is colored steady r.is
     (subst (λ (p : Picture). IsBand (length p.rows) band) (sym e) inside))
 
 -- The preconditions on the two screens of a diff.
@@ -314,17 +327,15 @@ pub record AreDiffed (self prev : ScreenValue) : Type 0 where
   pub other_colored : IsColored prev
   pub size : SamePictureSize (display self) (display prev)
 
-pub scrolling_redraws : (self prev : ScreenValue) (text : List ℕ) → AreDiffed self prev →
-    IsScrolling (display self) (display prev) text →
+pub scrolling_redraws : (form : Form) (self prev : ScreenValue) (text : List ℕ) → AreDiffed self prev →
+    IsScrolling form (display self) (display prev) text →
     Redraws (display self) (IsReaderOf (display self) (display prev)) KeepsRest text
-scrolling_redraws self prev text d (inl told) =
+scrolling_redraws form self prev text d (inl told) =
+    difference_redraws_in form self prev text told d.sound d.colored d.other d.other_colored d.size
+scrolling_redraws form self prev text d (inr (band, inside, told)) =
     redraws (IsReaderOf (display self) (display prev)) (display self) text (shown_is self d.sound) (λ reader r. r.is)
     (λ steady reader r. subst (λ (t : List ℕ). Becomes (display self) t reader) (sym told)
-    (difference_read self prev reader d.sound d.colored steady d.other d.other_colored d.size r))
-scrolling_redraws self prev text d (inr (band, inside, told)) =
-    redraws (IsReaderOf (display self) (display prev)) (display self) text (shown_is self d.sound) (λ reader r. r.is)
-    (λ steady reader r. subst (λ (t : List ℕ). Becomes (display self) t reader) (sym told)
-    (scrolling_read self prev reader band d.sound d.colored steady r inside))
+    (scrolling_read form self prev reader band d.sound d.colored steady r inside))
 
 -- ---- empty output
 
@@ -345,14 +356,15 @@ some_band false true height band u e = rw (u, e) (λ empty. cc)
 some_band false false height band u e = rw (u, e) (λ empty. cc)
 
 -- If a scrolling diff is empty, both screens display the same content.
-pub scrolling_tells : (self prev : ScreenValue) (text : List ℕ) → AreDiffed self prev → IsSteady (display self) →
-    IsScrolling (display self) (display prev) text → text ≡ [] → display self ≡ display prev
-scrolling_tells self prev text d steady (inl told) empty =
-    difference_tells self prev d.sound d.colored steady d.other d.other_colored d.size (sym told ∙ empty)
-scrolling_tells self prev text d steady (inr (band, inside, told)) empty =
+pub scrolling_tells : (form : Form) (self prev : ScreenValue) (text : List ℕ) → AreDiffed self prev →
+    IsSteady (display self) → IsScrolling form (display self) (display prev) text → text ≡ [] →
+    display self ≡ display prev
+scrolling_tells form self prev text d steady (inl told) empty =
+    difference_tells_in form self prev d.sound d.colored steady d.other d.other_colored d.size (sym told ∙ empty)
+scrolling_tells form self prev text d steady (inr (band, inside, told)) empty =
     let height = length (display prev).rows in
     let before = bytes_of_all (attr_ops (display prev).attrs default_attrs) in
-    let rest = bytes_of_all (difference (display self) (picture_after_move band (display prev))) in
+    let rest = bytes_of_all (difference_in form (display self) (picture_after_move band (display prev))) in
     absurd (some_band band.up (band.bottom == height) height band refl refl
     (empty_right before (band_text height band) (empty_left (before ++ band_text height band) rest (sym told ∙ empty))))
 
@@ -360,8 +372,8 @@ no_length : (xs : List ℕ) → length xs ≤ 0 → xs ≡ []
 no_length [] h = refl
 no_length (x ∷ xs) h = absurd (omega arith)
 
--- A scrolling diff between equal pictures is empty, because it is never longer than the ordinary diff.
-pub shorter_none : (a b : Picture) (text : List ℕ) → length text ≤ length (bytes_of_all (difference a b)) → a ≡ b →
-    text ≡ []
-shorter_none a b text shorter e =
-    no_length text (subst (λ (bytes : List ℕ). length text ≤ length bytes) (difference_none a b e) shorter)
+-- A scrolling diff between equal pictures is empty, because it is never longer than the ordinary diff in its form.
+pub shorter_none : (form : Form) (a b : Picture) (text : List ℕ) →
+    length text ≤ length (bytes_of_all (difference_in form a b)) → a ≡ b → text ≡ []
+shorter_none form a b text shorter e =
+    no_length text (subst (λ (bytes : List ℕ). length text ≤ length bytes) (difference_none_in form a b e) shorter)

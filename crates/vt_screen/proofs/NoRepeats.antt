@@ -17,7 +17,7 @@ use Rattle.vt_scan.proofs.Readback.{read_text}
 use Rattle.vt_scan.proofs.Running.{events_then, run-append}
 use Rattle.vt_scan.proofs.Sequences.{read_csi}
 use Rattle.vt_screen.specs.Diffs.{diff_controls, diff_finals}
-use Rattle.vt_screen.specs.MadeOf.{Characters, Control, IsCharacter, IsMadeOf, IsOneOf, IsPiece, Numbered, Piece, drawing_controls, piece_text}
+use Rattle.vt_screen.specs.MadeOf.{Characters, Control, IsCharacter, IsMadeOf, IsOneOf, IsPiece, Numbered, Piece, drawing_controls, input_controls, piece_text}
 use Rattle.vt_screen.specs.Repeating.{HasNoRepeat, repetitions}
 
 abbrev AreNone : List Event → Type 0
@@ -155,19 +155,41 @@ control_of true bytes (inl e) = subst IsQuiet (sym e) (record { state = refl; no
 control_of true bytes (inr (inl e)) = subst IsQuiet (sym e) (record { state = refl; none = (refl, tt) })
 control_of true bytes (inr (inr is)) = control_none bytes is
 
-pub piece_none : (scroll : Bool) (p : Piece) → IsPiece (diff_finals scroll) (diff_controls scroll) p → IsQuiet (piece_text p)
-piece_none scroll (Characters cs) is =
-    quiet_back (encode_utf8_all cs) (map Character cs) (read_text cs (readable cs is)) (characters_none cs)
-piece_none scroll (Numbered ns final) is =
-    let other = other_finals (diff_finals scroll) (all_other scroll) final is in
-    sequence_none ns final other.low other.high other.other
-piece_none scroll (Control bytes) is = control_of scroll bytes is
+-- Output that consists of characters, control sequences other than REP, and fixed sequences without REP.
+module _ (finals : List ℕ) (controls : List (List ℕ)) (others : list_all is_other_final finals ≡ true)
+    (quiet : (bytes : List ℕ) → IsOneOf bytes controls → IsQuiet bytes) where
+  piece_quiet : (p : Piece) → IsPiece finals controls p → IsQuiet (piece_text p)
+  piece_quiet (Characters cs) is =
+      quiet_back (encode_utf8_all cs) (map Character cs) (read_text cs (readable cs is)) (characters_none cs)
+  piece_quiet (Numbered ns final) is =
+      let other = other_finals finals others final is in
+      sequence_none ns final other.low other.high other.other
+  piece_quiet (Control bytes) is = quiet bytes is
 
-pieces_none : (scroll : Bool) (ps : List Piece) → AllByRecursion (IsPiece (diff_finals scroll) (diff_controls scroll)) ps →
-    IsQuiet (flat_map piece_text ps)
-pieces_none scroll [] is = record { state = refl; none = tt }
-pieces_none scroll (p ∷ ps) is =
-    quiet_then (piece_text p) (flat_map piece_text ps) (piece_none scroll p is.0) (pieces_none scroll ps is.1)
+  pieces_quiet : (ps : List Piece) → AllByRecursion (IsPiece finals controls) ps → IsQuiet (flat_map piece_text ps)
+  pieces_quiet [] is = record { state = refl; none = tt }
+  pieces_quiet (p ∷ ps) is =
+      quiet_then (piece_text p) (flat_map piece_text ps) (piece_quiet p is.0) (pieces_quiet ps is.1)
+
+  made_quiet : (text : List ℕ) → IsMadeOf finals controls text → HasNoRepeat text
+  made_quiet text made = (subst IsQuiet (sym made.spelled) (pieces_quiet made.pieces made.are_pieces)).none
+
+pub piece_none : (scroll : Bool) (p : Piece) → IsPiece (diff_finals scroll) (diff_controls scroll) p → IsQuiet (piece_text p)
+piece_none scroll = piece_quiet (diff_finals scroll) (diff_controls scroll) (all_other scroll) (control_of scroll)
 
 pub made_none : (scroll : Bool) (text : List ℕ) → IsMadeOf (diff_finals scroll) (diff_controls scroll) text → HasNoRepeat text
-made_none scroll text made = (subst IsQuiet (sym made.spelled) (pieces_none scroll made.pieces made.are_pieces)).none
+made_none scroll = made_quiet (diff_finals scroll) (diff_controls scroll) (all_other scroll) (control_of scroll)
+
+-- ---- output that sets input modes
+
+listed : (texts : List (List ℕ)) → AllByRecursion IsQuiet texts → (bytes : List ℕ) → IsOneOf bytes texts → IsQuiet bytes
+listed [] all bytes is = absurd is
+listed (text ∷ texts) all bytes (inl e) = subst IsQuiet (sym e) all.0
+listed (text ∷ texts) all bytes (inr is) = listed texts all.1 bytes is
+
+inputs_quiet : AllByRecursion IsQuiet input_controls
+unfolding fresh_step class_of table_of groups_of numbers_of number_of
+inputs_quiet = (record { state = refl; none = (refl, tt) }, (record { state = refl; none = (refl, tt) }, (record { state = refl; none = (refl, tt) }, (record { state = refl; none = (refl, tt) }, (record { state = refl; none = (refl, tt) }, (record { state = refl; none = (refl, tt) }, (record { state = refl; none = (refl, tt) }, (record { state = refl; none = (refl, tt) }, (record { state = refl; none = (refl, tt) }, (record { state = refl; none = (refl, tt) }, (record { state = refl; none = (refl, tt) }, (record { state = refl; none = (refl, tt) }, (record { state = refl; none = (refl, tt) }, (record { state = refl; none = (refl, tt) }, (record { state = refl; none = (refl, tt) }, (record { state = refl; none = (refl, tt) }, (record { state = refl; none = (refl, tt) }, (record { state = refl; none = (refl, tt) }, (record { state = refl; none = (refl, tt) }, (record { state = refl; none = (refl, tt) }, (record { state = refl; none = (refl, tt) }, (record { state = refl; none = (refl, tt) }, (record { state = refl; none = (refl, tt) }, (record { state = refl; none = (refl, tt) }, (record { state = refl; none = (refl, tt) }, tt)))))))))))))))))))))))))
+
+pub input_none : (text : List ℕ) → IsMadeOf [] input_controls text → HasNoRepeat text
+input_none = made_quiet [] input_controls refl (listed input_controls inputs_quiet)

@@ -110,7 +110,7 @@ pub run_then : (a b : List ℕ) → (run start a).state ≡ start →
 run_then a b ground =
     run-append start a b ∙ ap (λ (s : State). events_then (run start a).events (run s b)) ground
 
-portable_then : (a b : List ℕ) (doubts middle : Doubts) (screen : ScreenValue) →
+pub portable_then : (a b : List ℕ) (doubts middle : Doubts) (screen : ScreenValue) →
     ReadsPortably a doubts screen middle → PortableEvents (run start b).events middle (screen_in start screen a) →
     PortableEvents (run start (a ++ b)).events doubts screen
 portable_then a b doubts middle screen p q =

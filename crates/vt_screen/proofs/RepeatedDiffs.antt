@@ -1,13 +1,12 @@
 -- A diff in which runs are written with REP promises what the diff without REP promises.
 use Rattle.std.proofs.Common.{◌≡◌, ℕ, ◌-◌, ◌≤◌, Bool, true, false, List, [], ◌∷◌, ◌++◌, length, refl, sym, ap, subst}
 use Rattle.std.proofs.Common.{◌∙◌, arith, length-append}
-use Rattle.std.specs.Prelude.{IsTrue, if◌then◌else◌}
+use Rattle.std.specs.Prelude.{IsTrue}
 use Rattle.std.specs.Char.{encode_utf8}
 use Rattle.std.specs.List.{AllByRecursion, flat_map}
 use Rattle.vt_redraw.specs.Doubts.{doubts_of}
 use Rattle.vt_redraw.specs.Picture.{Picture}
 use Rattle.vt_redraw.specs.declared.form.Form.{Form}
-use Rattle.vt_redraw.specs.declared.form.Form.TheVariants.{Fixed}
 use Rattle.vt_scan.specs.Automaton.{start}
 use Rattle.vt_screen.specs.Again.{IsNoCallback, KeepsAside, LeavesPlain}
 use Rattle.vt_screen.specs.CallsOfRun.{screen_after_all, screen_in}
@@ -19,7 +18,7 @@ use Rattle.vt_screen.specs.Repeating.{HasRuns, IsReaderWithRoom, IsShortened, Re
 use Rattle.vt_screen.specs.Repeating.{full_text, repeat_text, short_text}
 use Rattle.vt_screen.specs.Portable.{IsPortableFrom}
 use Rattle.vt_screen.specs.Screen.{IsScreen, ScreenValue}
-use Rattle.vt_screen.specs.Shown.{IsPlain, IsReaderOf, IsSameIfEmpty, IsReadBy, Makes, ReadsTo, RedrawsFrom, display, form_of, shown_text}
+use Rattle.vt_screen.specs.Shown.{IsPlain, IsReaderOf, IsSameIfEmpty, IsReadBy, Makes, ReadsTo, RedrawsFrom, display, form_of, shown_text_in}
 use Rattle.vt_screen.specs.Steps.{Step as Action}
 use Rattle.vt_screen.specs.declared.repeat.Repeat.{Repeat}
 use Rattle.vt_screen.specs.declared.repeat.Repeat.TheVariants.{Never, Ascii, Any}
@@ -104,12 +103,12 @@ of_may_repeat Any was plain text is = is
 pub diff_again : (repeat : Repeat) (form : Form) (scroll : Bool) (was new : ScreenValue) (plain text : List ℕ) →
     IsPlainDiff form scroll was new plain → MayRepeat repeat was plain text → KeepsScreensPlain text
 diff_again repeat form scroll was new plain text is may reader sound ready =
-    repeated_leaves plain text reader ((of_may_repeat repeat was plain text may).same reader sound) (is.again reader ready)
+    repeated_leaves plain text reader ((of_may_repeat repeat was plain text may).same reader sound) (is.has.again reader ready)
 
 pub diff_redraws : (repeat : Repeat) (form : Form) (scroll : Bool) (was new : ScreenValue) (plain text : List ℕ) →
     IsPlainDiff form scroll was new plain → MayRepeat repeat was plain text → RedrawsFrom was new text
 diff_redraws repeat form scroll was new plain text is may =
-    repeated_redraws was new plain text (of_may_repeat repeat was plain text may).same is.redraws
+    repeated_redraws was new plain text (of_may_repeat repeat was plain text may).same is.has.redraws
 
 reader_with_room : (was new reader : ScreenValue) → IsReaderOf (display new) (display was) reader →
     IsReaderWithRoom was.page.width (was.page.width - was.page.column) reader
@@ -121,7 +120,7 @@ reader_with_room was new reader is =
 pub diff_rows : (repeat : Repeat) (form : Form) (scroll : Bool) (was new : ScreenValue) (plain text : List ℕ) →
     IsPlainDiff form scroll was new plain → MayRepeat repeat was plain text → RepeatsOnlyInRows was new text
 diff_rows repeat form scroll was new plain text is may reader reads =
-    (of_may_repeat repeat was plain text may).rows (made_none scroll plain is.controls) reader
+    (of_may_repeat repeat was plain text may).rows (made_none scroll plain is.has.controls) reader
     (reader_with_room was new reader reads)
 
 nothing : (xs : List ℕ) → length xs ≤ 0 → xs ≡ []
@@ -131,23 +130,17 @@ nothing (x ∷ xs) h = absurd (omega (arith, h))
 pub diff_none : (repeat : Repeat) (form : Form) (scroll : Bool) (was new : ScreenValue) (plain text : List ℕ) →
     IsPlainDiff form scroll was new plain → MayRepeat repeat was plain text → display new ≡ display was → text ≡ []
 diff_none repeat form scroll was new plain text is may same =
-    let none = ap length (is.none same) in
+    let none = ap length (is.has.none same) in
     let less = (of_may_repeat repeat was plain text may).shorter in
     nothing text (omega (arith, none, less))
 
 pub diff_redraw : (repeat : Repeat) (form : Form) (scroll : Bool) (was new : ScreenValue) (plain text : List ℕ) →
-    IsPlainDiff form scroll was new plain → MayRepeat repeat was plain text → form ≡ Fixed → IsTrue scroll →
-    length text ≤ length (shown_text new)
-diff_redraw repeat form scroll was new plain text is may fixed scrolls =
-    let long = is.redraw fixed scrolls in
+    IsPlainDiff form scroll was new plain → MayRepeat repeat was plain text → IsTrue scroll →
+    length text ≤ length (shown_text_in form new)
+diff_redraw repeat form scroll was new plain text is may scrolls =
+    let long = is.redraw scrolls in
     let less = (of_may_repeat repeat was plain text may).shorter in
     omega (arith, long, less)
-
--- A diff that may move rows or columns is a scrolling one in the fixed form.
-pub moving_fixed : (portable scroll : Bool) → IsTrue (if portable then false else scroll) →
-    (form_of portable ≡ Fixed) × IsTrue scroll
-moving_fixed true scroll moves = absurd cc
-moving_fixed false scroll moves = (refl, moves)
 
 -- A portable diff stays portable when runs are written with REP.
 pub diff_portable : (portable : Bool) (form : Form) (scroll : Bool) (was new : ScreenValue) (plain text : List ℕ) →
@@ -156,7 +149,7 @@ pub diff_portable : (portable : Bool) (form : Form) (scroll : Bool) (was new : S
 diff_portable false form scroll was new plain text is keeps e asked = absurd cc
 diff_portable true form scroll was new plain text is keeps e asked = λ steady reader reads.
     keeps reader (doubts_of (display was)) (reader_with_room was new reader reads)
-    (is.portable e steady reader reads)
+    (is.has.portable e steady reader reads)
 
 -- Empty output stands for no runs.
 runs_nothing : (runs : List Run) (rest plain text : List ℕ) → plain ≡ flat_map full_text runs ++ rest →
@@ -174,12 +167,12 @@ pub diff_empty : (repeat : Repeat) (form : Form) (scroll : Bool) (was new : Scre
     IsPlainDiff form scroll was new plain → MayRepeat repeat was plain text → IsSameIfEmpty was new text
 diff_empty repeat form scroll was new plain text is may steady empty =
     let has = (of_may_repeat repeat was plain text may).runs in
-    is.empty steady (runs_nothing has.runs has.rest plain text has.in_full has.in_short empty)
+    is.has.empty steady (runs_nothing has.runs has.rest plain text has.in_full has.in_short empty)
 
 pub diff_made : (repeat : Repeat) (form : Form) (scroll : Bool) (was new : ScreenValue) (plain text : List ℕ) →
     IsPlainDiff form scroll was new plain → MayRepeat repeat was plain text → KeepsPieces plain text →
     IsMadeOf (finals_with repeat scroll) (diff_controls scroll) text
 diff_made Never form scroll was new plain text is may keeps =
-    subst (IsMadeOf (diff_finals scroll) (diff_controls scroll)) (sym may) is.controls
-diff_made Ascii form scroll was new plain text is may keeps = keeps scroll is.controls
-diff_made Any form scroll was new plain text is may keeps = keeps scroll is.controls
+    subst (IsMadeOf (diff_finals scroll) (diff_controls scroll)) (sym may) is.has.controls
+diff_made Ascii form scroll was new plain text is may keeps = keeps scroll is.has.controls
+diff_made Any form scroll was new plain text is may keeps = keeps scroll is.has.controls

@@ -9,6 +9,7 @@ use Rattle.vt_redraw.specs.Redraw.{difference}
 use Rattle.vt_redraw.specs.Script.{attr_ops}
 use Rattle.vt_redraw.specs.Shifted.{IsMoving, IsRowShift, in_default_attrs, shift_text, shifted_all, shifting_text}
 use Rattle.vt_redraw.specs.Shifted.{shifts_text}
+use Rattle.vt_redraw.specs.declared.form.Form.{Form}
 use Rattle.vt_redraw.specs.declared.row_shift.RowShift.{RowShift}
 use Rattle.vt_redraw.proofs.Fitting.{difference_fits}
 use Rattle.vt_redraw.proofs.Saving.{difference_safe}
@@ -92,9 +93,9 @@ shifted_keeps screen prev shifts is colored sound other all reader plain =
           (goes_then false rest.saved reader changed (shifts_text shifts) (bytes_of_all rest_ops) two rest.goes);
     })
 
-pub moving_keeps : (screen prev : ScreenValue) (text : List ℕ) → IsScreen screen → IsColored screen →
-    IsScreen prev → IsColored prev → IsMoving (display screen) (display prev) text → KeepsPlain text
-moving_keeps screen prev text is colored sound other (inl told) =
-    scrolling_keeps screen prev text is colored sound other told
-moving_keeps screen prev text is colored sound other (inr it) =
+pub moving_keeps : (form : Form) (screen prev : ScreenValue) (text : List ℕ) → IsScreen screen → IsColored screen →
+    IsScreen prev → IsColored prev → IsMoving form (display screen) (display prev) text → KeepsPlain text
+moving_keeps form screen prev text is colored sound other (inl told) =
+    scrolling_keeps form screen prev text is colored sound other told
+moving_keeps form screen prev text is colored sound other (inr (fixed, it)) =
     subst KeepsPlain (sym it.bytes) (shifted_keeps screen prev (it.first ∷ it.rest) is colored sound other it.inside)

@@ -16,6 +16,7 @@ use Rattle.vt_redraw.specs.Script.{attr_ops}
 use Rattle.vt_redraw.specs.Shifted.{IsMoving, IsRowShift, in_default_attrs, shift_text, shifted_all, shifted_page}
 use Rattle.vt_redraw.specs.Shifted.{shifted_pages, shifting_text, shifts_text}
 use Rattle.vt_redraw.specs.Steady.{IsSteady}
+use Rattle.vt_redraw.specs.declared.form.Form.{Form}
 use Rattle.vt_redraw.specs.declared.row_shift.RowShift.{RowShift}
 use Rattle.vt_redraw.proofs.Difference.{difference_draws}
 use Rattle.vt_redraw.proofs.Fitting.{difference_fits}
@@ -171,11 +172,11 @@ shifting_read self prev reader shifts is colored steady r all =
     (shifted_becomes self reader shifts is colored steady r.is
     (subst (λ (p : Picture). AllByRecursion (IsRowShift (length p.rows) p.width) shifts) (sym e) all))
 
-pub moving_redraws : (self prev : ScreenValue) (text : List ℕ) → AreDiffed self prev →
-    IsMoving (display self) (display prev) text →
+pub moving_redraws : (form : Form) (self prev : ScreenValue) (text : List ℕ) → AreDiffed self prev →
+    IsMoving form (display self) (display prev) text →
     Redraws (display self) (IsReaderOf (display self) (display prev)) KeepsRest text
-moving_redraws self prev text d (inl told) = scrolling_redraws self prev text d told
-moving_redraws self prev text d (inr it) =
+moving_redraws form self prev text d (inl told) = scrolling_redraws form self prev text d told
+moving_redraws form self prev text d (inr (fixed, it)) =
     redraws (IsReaderOf (display self) (display prev)) (display self) text (shown_is self d.sound) (λ reader r. r.is)
     (λ steady reader r. subst (λ (t : List ℕ). Becomes (display self) t reader) (sym it.bytes)
     (shifting_read self prev reader (it.first ∷ it.rest) d.sound d.colored steady r it.inside))
@@ -186,10 +187,11 @@ some_place : (r c : ℕ) → bytes_of (MoveTo r c) ≡ [] → ⊥
 some_place r c empty = cc
 
 -- A diff that may move rows or columns is empty only between screens that display the same.
-pub moving_tells : (self prev : ScreenValue) (text : List ℕ) → AreDiffed self prev → IsSteady (display self) →
-    IsMoving (display self) (display prev) text → text ≡ [] → display self ≡ display prev
-moving_tells self prev text d steady (inl told) empty = scrolling_tells self prev text d steady told empty
-moving_tells self prev text d steady (inr it) empty =
+pub moving_tells : (form : Form) (self prev : ScreenValue) (text : List ℕ) → AreDiffed self prev →
+    IsSteady (display self) → IsMoving form (display self) (display prev) text → text ≡ [] →
+    display self ≡ display prev
+moving_tells form self prev text d steady (inl told) empty = scrolling_tells form self prev text d steady told empty
+moving_tells form self prev text d steady (inr (fixed, it)) empty =
     let before = in_default_attrs (display prev) in
     let change = bytes_of_all (attr_ops (display prev).attrs default_attrs) in
     let rest = bytes_of_all (difference (display self) (shifted_all (it.first ∷ it.rest) before)) in

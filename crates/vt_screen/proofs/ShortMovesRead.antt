@@ -1,21 +1,20 @@
 -- Reading a diff whose cursor movements were shortened.
-use Rattle.std.proofs.Common.{◌≡◌, ℕ, ◌<◌, ◌≤◌, Bool, true, false, nat_lt, List, [], ◌∷◌, length, Some, None, refl, sym, ap, subst, ◌∙◌, arith, inl, inr}
+use Rattle.std.proofs.Common.{◌≡◌, ℕ, ◌<◌, ◌≤◌, ◌&&◌, Bool, true, false, not, nat_lt, List, [], ◌∷◌, length, Some, None, refl, sym, ap, subst, ◌∙◌, arith, inl, inr}
 use Rattle.std.specs.Prelude.{if◌then◌else◌}
 use Rattle.std.proofs.lemmas.Bool.Decides.{nat_tests}
 use Rattle.vt_cells.specs.Attrs.{default_attrs}
 use Rattle.vt_cells.proofs.Same.{attrs_of-same}
 use Rattle.vt_grid.specs.Page.{row_or}
 use Rattle.vt_rows.specs.Cells.{ends_blank}
-use Rattle.vt_redraw.specs.Doubts.{NotPending, Pending, Unsure, doubts_of}
+use Rattle.vt_redraw.specs.Doubts.{NotPending, Pending, Unsure, doubts_of, ends_uncertain, is_past_uncertain}
 use Rattle.vt_redraw.specs.Picture.{Picture}
 use Rattle.vt_redraw.specs.declared.form.Form.{Form}
 use Rattle.vt_redraw.specs.declared.form.Form.TheVariants.{Portable}
 use Rattle.vt_redraw.specs.Shifted.{IsMoving}
 use Rattle.vt_scan.specs.Automaton.{start}
 use Rattle.vt_screen.specs.Again.{KeepsPlain}
-use Rattle.vt_screen.specs.DiffInternals.{IsPlainDiff}
 use Rattle.vt_screen.specs.Gaps.{IsShortVersion, ReplacesWhole, Tracks, known_at_start, picture_cell}
-use Rattle.vt_screen.specs.MadeOf.{IsMadeOf, drawing_controls, drawing_finals, shortened_controls, shortened_finals}
+use Rattle.vt_screen.specs.MadeOf.{IsMadeOf, drawing_controls, shortened_controls, shortened_finals}
 use Rattle.vt_screen.specs.Portable.{IsPortable}
 use Rattle.vt_screen.specs.Reading.{terminal, terminal_after}
 use Rattle.vt_screen.specs.Screen.{IsColored, IsScreen, ScreenValue}
@@ -23,7 +22,8 @@ use Rattle.vt_screen.specs.ShortMoves.{IsAgreed, IsAt, IsShortMoving, IsShortene
 use Rattle.vt_screen.specs.declared.short_moves.known.Known.{Known}
 use Rattle.vt_screen.specs.Shown.{IsReadBy, IsReaderOf, IsSameIfEmpty, RedrawsFrom, display}
 use Rattle.vt_screen.proofs.ContentTexts.{none_refused}
-use Rattle.vt_screen.proofs.MadeOf.{made_more, moving_made, scrolling_finals}
+use Rattle.vt_screen.proofs.MadeOf.{made_more}
+use Rattle.vt_screen.proofs.MovedMade.{moving_made, scrolling_finals}
 use Rattle.vt_screen.proofs.Shown.{plain_shown, shown_height}
 
 nothing : (xs : List ℕ) → length xs ≤ 0 → xs ≡ []
@@ -82,8 +82,8 @@ pub version_shortened : (form : Form) (self : Picture) (prev : ScreenValue) (old
 version_shortened form self prev old text is =
     record { same = version_same form self prev old text is; shorter = version_shorter form prev old text is }
 
-pub version_moving : (form : Form) (self : Picture) (prev : ScreenValue) (old text : List ℕ) → IsMoving self (display prev) old →
-    IsShortVersion form prev old text → IsShortMoving self (display prev) text
+pub version_moving : (form : Form) (self : Picture) (prev : ScreenValue) (old text : List ℕ) →
+    IsMoving form self (display prev) old → IsShortVersion form prev old text → IsShortMoving form self (display prev) text
 version_moving form self prev old text moving is = record {
   plain = old;
   moving = moving;
@@ -119,60 +119,42 @@ version_keeps form prev old text keeps (inr r) = r.1.stands.keeps
 
 -- ---- scrolling diffs
 
-pub moving_short : (self prev : ScreenValue) (old : List ℕ) → IsScreen self → IsColored self → IsColored prev →
-    IsMoving (display self) (display prev) old → IsMadeOf shortened_finals shortened_controls old
-moving_short self prev old is colored other moving =
+pub moving_short : (form : Form) (self prev : ScreenValue) (old : List ℕ) → IsScreen self → IsColored self →
+    IsScreen prev → IsColored prev → IsMoving form (display self) (display prev) old →
+    IsMadeOf shortened_finals shortened_controls old
+moving_short form self prev old is colored other colored_other moving =
     made_more scrolling_finals shortened_finals drawing_controls shortened_controls (λ x one. inr one)
-    (λ x one. inr (inr one)) old (moving_made self prev old is colored other moving)
+    (λ x one. inr (inr one)) old (moving_made form self prev old is colored other colored_other moving)
 
 -- ---- portable diffs
 
 -- Terminals that display a screen's picture agree on the position of the cursor unless a wrap is pending.
 agreed_start : (prev : ScreenValue) → IsAgreed (known_cursor prev) (doubts_of (display prev))
-unfolding doubts_of
+unfolding doubts_of is_past_uncertain
 agreed_start prev = by_wrap (nat_lt prev.page.column prev.page.width)
     (ends_blank (row_or prev.page.width (display prev).rows prev.page.row).cells)
+    (ends_uncertain (row_or prev.page.width (display prev).rows prev.page.row).cells)
   where
-    by_wrap : (inside blank : Bool) →
+    by_wrap : (inside blank uncertain : Bool) →
         IsAgreed (if inside then Some (record { row = prev.page.row; col = prev.page.column }) else None)
         (record {
           wrap = if inside then NotPending else if blank then Unsure else Pending;
-          is_shifted = false;
+          is_shifted = not inside && uncertain;
           is_after_character = false;
         })
-    by_wrap true blank = record { wrap = refl; place = refl }
-    by_wrap false blank = tt
+    by_wrap true blank uncertain = record { wrap = refl; place = refl }
+    by_wrap false blank uncertain = tt
 
 -- A shortened version of portable output that terminals read quietly is portable.
-pub version_portable : (self : Picture) (prev : ScreenValue) (old text : List ℕ) → IsShortVersion Portable prev old text →
-    IsReadBy (IsReaderOf self (display prev)) old → IsPortable self (display prev) old → IsPortable self (display prev) text
-version_portable self prev old text (inl e) quiet portable = subst (IsPortable self (display prev)) (sym e) portable
-version_portable self prev old text (inr r) quiet portable = λ reader is.
+pub version_portable : (form : Form) (self : Picture) (prev : ScreenValue) (old text : List ℕ) → form ≡ Portable →
+    IsShortVersion form prev old text → IsReadBy (IsReaderOf self (display prev)) old →
+    IsPortable self (display prev) old → IsPortable self (display prev) text
+version_portable form self prev old text is_portable (inl e) quiet portable =
+    subst (IsPortable self (display prev)) (sym e) portable
+version_portable form self prev old text is_portable (inr r) quiet portable = λ reader is.
     let (after, reads) = quiet reader is in
-    (r.1.stands.portable refl reader (doubts_of (display prev)) (terminal start after)
-    (reader_tracked Portable self prev reader is) (agreed_start prev) reads (portable reader is)).agrees
-
--- Output of a portable diff whose cursor movements were shortened.
-pub portable_shortened : (self prev : ScreenValue) (old text : List ℕ) → IsPlainDiff Portable false prev self old →
-    IsShortVersion Portable prev old text → IsPlainDiff Portable true prev self text
-portable_shortened self prev old text plain is = record {
-  diff = subst (λ (xs : List ℕ). IsShortened (display self) (display prev) xs text) plain.diff
-      (version_shortened Portable (display self) prev old text is);
-  controls = version_made Portable prev old text
-      (made_more drawing_finals shortened_finals drawing_controls shortened_controls
-      (λ x one. inr (inr (inr (inr (inr one))))) (λ x one. inr (inr one)) old plain.controls) is;
-  again = version_keeps Portable prev old text plain.again is;
-  shorter = let less = version_shorter Portable prev old text is in let long = plain.shorter in omega (arith, less, long);
-  redraw = λ fixed scrolls. absurd (cc);
-  redraws = version_redraws Portable self prev old text plain.redraws is;
-  empty = version_tells Portable self prev old text plain.empty is;
-  none = λ same.
-      let less = version_shorter Portable prev old text is in
-      let none = ap (λ (xs : List ℕ). length xs) (plain.none same) in
-      nothing text (omega (arith, less, none));
-  portable = λ form steady.
-      version_portable (display self) prev old text is (plain.redraws.quiet steady) (plain.portable form steady);
-}
+    (r.1.stands.portable is_portable reader (doubts_of (display prev)) (terminal start after)
+    (reader_tracked form self prev reader is) (agreed_start prev) reads (portable reader is)).agrees
 
 pub version_short : (form : Form) (prev : ScreenValue) (picture : Picture) (start : Known) (old whole text : List ℕ)
     → ReplacesWhole (length picture.rows) picture.width (picture_cell picture) start whole text

@@ -56,7 +56,7 @@ change_read screen prev reader is colored steady other colored_other size r =
 
 -- ---- the consequences for each terminal
 
-same_some : {A : Type 0} (x y : A) → Some x ≡ Some y → x ≡ y
+pub same_some : {A : Type 0} (x y : A) → Some x ≡ Some y → x ≡ y
 same_some x y e = cc
 
 after_is : (screen : ScreenValue) (text : List ℕ) (reader after : ScreenValue) (b : Restores screen text reader) →
@@ -133,7 +133,7 @@ change_gives screen prev text told is colored other colored_other size =
 
 -- ---- empty output
 
-both_empty : (a b : List ℕ) → (a ++ b) ≡ [] → (a ≡ []) × (b ≡ [])
+pub both_empty : (a b : List ℕ) → (a ++ b) ≡ [] → (a ≡ []) × (b ≡ [])
 both_empty [] b e = (refl, e)
 both_empty (x ∷ a) b e = absurd cc
 

@@ -18,7 +18,7 @@ use Rattle.vt_screen.proofs.QuietSteps.{none_then, read_run}
 use Rattle.vt_screen.proofs.StepLists.{screen_in_then, steps_in_then}
 
 -- Output that leaves the terminal plain, followed by output that sets its input modes.
-modes_after_drawing : (Had : Modes → Type 0) (new : Modes) (drawn modes : List ℕ) (reader : ScreenValue) →
+pub modes_after_drawing : (Had : Modes → Type 0) (new : Modes) (drawn modes : List ℕ) (reader : ScreenValue) →
     LeavesPlain drawn reader → SetsModes Had new modes → Had reader.modes → LeavesPlainWithModes new (drawn ++ modes) reader
 modes_after_drawing Had new drawn modes reader plain sets had =
     let middle = screen_in start reader drawn in

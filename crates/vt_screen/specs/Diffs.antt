@@ -1,33 +1,26 @@
 -- Diffs with options: whether the diff may move rows and columns, and which characters may be repeated with REP.
-use Rattle.std.specs.Prelude.{◌≡◌, ◌-◌, ℕ, Bool, true, false, List, ◌∷◌, if◌then◌else◌}
+use Rattle.std.specs.Prelude.{◌≡◌, ◌-◌, ℕ, Bool, true, false, List, ◌∷◌}
 use Rattle.vt_screen.specs.Again.{LeavesPlain}
 use Rattle.vt_screen.specs.MadeOf.{IsMadeOf, drawing_controls, drawing_finals, shortened_controls, shortened_finals}
 use Rattle.vt_screen.specs.Repeating.{Repeats, RepeatsInRows}
 use Rattle.vt_screen.specs.Screen.{IsScreen, ScreenValue}
-use Rattle.vt_screen.specs.ShortMoves.{IsMovingOrRedraw, IsShortened}
-use Rattle.vt_screen.specs.Shown.{IsPlain, IsReaderOf, display, display_change, display_change_in, form_of}
+use Rattle.vt_screen.specs.ShortMoves.{IsMovingOrRedrawIn}
+use Rattle.vt_screen.specs.Shown.{IsPlain, IsReaderOf, display, display_change_in, form_of}
 use Rattle.vt_redraw.specs.declared.form.Form.{Form}
-use Rattle.vt_redraw.specs.declared.form.Form.TheVariants.{Fixed, Portable}
 use Rattle.vt_screen.specs.declared.diff_options.DiffOptions.{DiffOptions}
 use Rattle.vt_screen.specs.declared.repeat.Repeat.{Repeat}
 use Rattle.vt_screen.specs.declared.repeat.Repeat.TheVariants.{Never}
-
--- Whether a diff with the given options may move rows or columns, or be the full redraw. Portable diffs do neither.
-abbrev pub may_move : DiffOptions → Bool
-may_move options = if options.portable then false else options.scroll
 
 -- The form of a diff with the given options.
 abbrev pub form_with : DiffOptions → Form
 form_with options = form_of options.portable
 
--- The output is a diff from the screen `was` to the screen `new` in the given form. If `scroll` is true, a diff in the
--- fixed form may move rows or columns, or be the redraw of `new`, and one in the portable form may be shortened.
--- Otherwise, it is the diff that moves no rows or columns.
+-- The output is a diff from the screen `was` to the screen `new` in the given form. If `scroll` is true, the diff may
+-- move rows or, in the fixed form, columns, or be the redraw of `new`. Otherwise, it is the diff that moves no rows or
+-- columns.
 abbrev pub IsDiff : Form → (scroll : Bool) → (was new : ScreenValue) → List ℕ → Type 0
-IsDiff Fixed true was new text = IsMovingOrRedraw (display new) (display was) text
-IsDiff Fixed false was new text = text ≡ display_change was new
-IsDiff Portable true was new text = IsShortened (display new) (display was) (display_change_in Portable was new) text
-IsDiff Portable false was new text = text ≡ display_change_in Portable was new
+IsDiff form true was new text = IsMovingOrRedrawIn form (display new) (display was) text
+IsDiff form false was new text = text ≡ display_change_in form was new
 
 -- The final bytes of the control sequences with numeric parameters that may occur in a diff without REP, given whether
 -- the diff is a scrolling one.

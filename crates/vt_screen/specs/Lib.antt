@@ -33,5 +33,6 @@ pub mod RepeatInternals
 pub mod Portable
 pub mod Diffs
 pub mod DiffInternals
+pub mod StatesWith
 pub mod ShortMoves
 pub mod Gaps

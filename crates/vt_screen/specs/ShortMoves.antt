@@ -5,10 +5,10 @@ use Rattle.std.specs.List.{AllByRecursion}
 use Rattle.vt_redraw.specs.Doubts.{Doubts, IsPlaced, no_doubts}
 use Rattle.vt_redraw.specs.Fits.{IsDrawn}
 use Rattle.vt_redraw.specs.Picture.{Picture}
-use Rattle.vt_redraw.specs.Redraw.{redraw}
+use Rattle.vt_redraw.specs.Redraw.{redraw_in}
 use Rattle.vt_redraw.specs.Shifted.{IsMoving}
 use Rattle.vt_redraw.specs.declared.form.Form.{Form}
-use Rattle.vt_redraw.specs.declared.form.Form.TheVariants.{Portable}
+use Rattle.vt_redraw.specs.declared.form.Form.TheVariants.{Fixed, Portable}
 use Rattle.vt_cells.specs.Op.{MoveTo, MoveRight, NextRow, EraseRest, EraseChars, Hide, bytes_of, bytes_of_all, counted, csi, semicolon_list}
 use Rattle.vt_cells.specs.declared.pos.Pos.{Pos}
 use Rattle.vt_scan.specs.Automaton.{start}
@@ -137,21 +137,28 @@ pub record IsShortened (self prev : Picture) (plain text : List ℕ) : Type 0 wh
       terminal_after (terminal start reader) text ≡ terminal_after (terminal start reader) plain
   pub shorter : length text ≤ length plain
 
--- The output is a scrolling diff, or a shortened version of one.
-pub record IsShortMoving (self prev : Picture) (text : List ℕ) : Type 0 where
+-- The output is a scrolling diff in the given form, or a shortened version of one.
+pub record IsShortMoving (form : Form) (self prev : Picture) (text : List ℕ) : Type 0 where
   pub plain : List ℕ
-  pub moving : IsMoving self prev plain
+  pub moving : IsMoving form self prev plain
   pub short : IsShortened self prev plain text
 
--- The output is a scrolling diff, as `IsShortMoving` describes, or the redraw of the picture `self`.
-abbrev pub IsMovingOrRedraw : (self prev : Picture) → List ℕ → Type 0
-IsMovingOrRedraw self prev text = IsShortMoving self prev text ⊎ (text ≡ bytes_of_all (redraw self))
+-- The output is a scrolling diff in the given form, as `IsShortMoving` describes, or the redraw of the picture `self` in
+-- that form.
+abbrev pub IsMovingOrRedrawIn : Form → (self prev : Picture) → List ℕ → Type 0
+IsMovingOrRedrawIn form self prev text =
+    IsShortMoving form self prev text ⊎ (text ≡ bytes_of_all (redraw_in form self))
 
--- `new` is the shorter of the output `old` and the redraw of the picture, and is `old` if they are equally long.
-abbrev pub IsShorterWithRedraw : Picture → (old new : List ℕ) → Type 0
-IsShorterWithRedraw picture old new =
-    ((new ≡ old) × (length old ≤ length (bytes_of_all (redraw picture))))
-    ⊎ ((new ≡ bytes_of_all (redraw picture)) × (length new < length old))
+-- The output is as `IsMovingOrRedrawIn` describes, in the fixed form.
+abbrev pub IsMovingOrRedraw : (self prev : Picture) → List ℕ → Type 0
+IsMovingOrRedraw self prev text = IsMovingOrRedrawIn Fixed self prev text
+
+-- `new` is the shorter of the output `old` and the redraw of the picture in the given form, and is `old` if they are
+-- equally long.
+abbrev pub IsShorterWithRedraw : Form → Picture → (old new : List ℕ) → Type 0
+IsShorterWithRedraw form picture old new =
+    ((new ≡ old) × (length old ≤ length (bytes_of_all (redraw_in form picture))))
+    ⊎ ((new ≡ bytes_of_all (redraw_in form picture)) × (length new < length old))
 
 -- ---- the elements of the output
 

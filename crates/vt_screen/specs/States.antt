@@ -1,6 +1,6 @@
 -- Output that sets a whole state (a display and input modes), output that sets only input modes, and the effects of
 -- both on terminals.
-use Rattle.std.specs.Prelude.{◌≡◌, ℕ, List, ◌++◌}
+use Rattle.std.specs.Prelude.{◌≡◌, ℕ, List, [], ◌++◌}
 use Rattle.std.specs.List.{AllByRecursion}
 use Rattle.vt_grid.specs.Page.{SameSize}
 use Rattle.vt_redraw.specs.Steady.{IsSteady}
@@ -58,6 +58,16 @@ HasModes modes reader after = after.modes ≡ modes
 pub record GivesState (Reader : ScreenValue → Type 0) (screen : ScreenValue) (text : List ℕ) : Type 0 where
   pub redraws : Redraws (display screen) Reader KeepsRestButModes text
   pub modes : IsSteady (display screen) → Makes Reader text (HasModes screen.modes)
+
+-- If the text is empty and the picture of the screen `new` is steady, both screens have the same picture and the same
+-- input modes.
+abbrev pub IsSameStateIfEmpty : (was new : ScreenValue) → List ℕ → Type 0
+IsSameStateIfEmpty was new text =
+    IsSteady (display new) → text ≡ [] → (display new ≡ display was) × (new.modes ≡ was.modes)
+
+-- If both screens have the same picture and the same input modes, the text is empty.
+abbrev pub IsEmptyIfSameState : (was new : ScreenValue) → List ℕ → Type 0
+IsEmptyIfSameState was new text = display new ≡ display was → new.modes ≡ was.modes → text ≡ []
 
 -- ---- terminals that are plain again
 

@@ -20,7 +20,7 @@ pub struct DiffOptions {
     pub repeat: Repeat,
 
     /// Whether the diff avoids sequences on whose effects terminals disagree. A portable diff moves
-    /// no rows or columns: `scroll` then only allows shorter cursor movements.
+    /// no columns; with `scroll`, it may move rows.
     pub portable: bool,
 }
 

@@ -20,6 +20,7 @@ ghost use Rattle.vt_screen.specs.Pages.{screen_after_resize};
 ghost use Rattle.vt_screen.specs.Screen.{IsScreen, ScreenValue, fresh_screen, scrolled_back, visible_row, visible_rows};
 ghost use Rattle.vt_screen.specs.Selectors.{HasNoSelectors};
 ghost use Rattle.vt_screen.specs.Shown.{ShowSamePage, ShowsNoSelector, ShowsOwnPage, display};
+ghost use Rattle.vt_screen.specs.StatesWith.{state_diff_controls};
 ghost use Rattle.vt_screen.specs.Steps.{EraseScrollback, screen_after};
 ghost use Rattle.vt_screen.specs.Streamed.{AreSameTrimmed, HasNoRis, HasWideFlags, without_scrollback, rows_of_calls, sent_off_in};
 ghost use Rattle.vt_screen.specs.CallsOfRun.{calls_in, screen_in};
@@ -152,12 +153,14 @@ pub fn wide_flags()
 ///
 /// Once decoded, the output contains no controls (C0, C1 or DEL) except BS, LF,
 /// CR and ESC and, in scrolling diffs, HT (clauses `shortened`,
-/// `with_scrolling`). In output that draws (clauses `drawing`, `shortened`,
-/// `with_options`, `with_scrolling`, `reset`), each ESC is followed by `[`, `7`
-/// or `8`. In output that also sets modes (clause `state`), an ESC may also be
+/// `with_scrolling`, `state_with_scrolling`). In output that draws (clauses
+/// `drawing`, `shortened`, `with_options`, `with_scrolling`, `reset`), each ESC
+/// is followed by `[`, `7` or `8`. In output that also sets modes (clauses
+/// `state`, `state_with_options`, `state_with_scrolling`), an ESC may also be
 /// followed by `=` or `>`. In captures, each ESC is followed by `[`. Plain text
 /// contains no ESC. The clauses `with_options` and `with_scrolling` are for
-/// `contents_diff_with` without and with the option `scroll`.
+/// `contents_diff_with`, and `state_with_options` and `state_with_scrolling`
+/// for `state_diff_with`, each without and with the option `scroll`.
 pub fn escapes()
     ensures drawing { (text : List ℕ) → IsMadeOf drawing_finals drawing_controls text →
         HasOnlyEscapes (codes "[78") text }
@@ -169,6 +172,11 @@ pub fn escapes()
         HasOnlyControls moving_controls (codes "[78") text }
     ensures reset { (text : List ℕ) → IsMadeOf drawing_finals reset_controls text → HasOnlyEscapes (codes "[78") text }
     ensures state { (text : List ℕ) → IsMadeOf drawing_finals state_controls text → HasOnlyEscapes (codes "[78=>") text }
+    ensures state_with_options { (repeat : Repeat) (text : List ℕ) →
+        IsMadeOf (finals_with repeat false) (state_diff_controls false) text → HasOnlyEscapes (codes "[78=>") text }
+    ensures state_with_scrolling { (repeat : Repeat) (text : List ℕ) →
+        IsMadeOf (finals_with repeat true) (state_diff_controls true) text →
+        HasOnlyControls moving_controls (codes "[78=>") text }
     ensures capture { (text : List ℕ) → IsMadeOf capture_finals plain_controls text → HasOnlyEscapes (codes "[") text }
     ensures plain { (text : List ℕ) → IsMadeOf [] plain_controls text → HasOnlyEscapes [] text }
 {}

@@ -20,6 +20,7 @@ pub mod resizing;
 mod row_items;
 pub mod scrolling;
 mod state;
+mod state_with;
 
 use crate::modes::Modes;
 use crate::sgr::Setting;

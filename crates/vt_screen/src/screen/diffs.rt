@@ -1,20 +1,20 @@
 //! Diffs with options.
 
-ghost use Rattle.std.specs.Prelude.{◌≡◌, ◌≤◌, ◌-◌, [], IsOk, true, false, IsTrue, length, string_bytes};
+ghost use Rattle.std.specs.Prelude.{◌≡◌, ◌≤◌, ◌-◌, [], IsOk, false, IsTrue, length, string_bytes};
 ghost use Rattle.vt_cells.specs.Refusals.{OnlyOutOfMemory};
 ghost use Rattle.vt_grid.specs.Page.{SameSize};
 ghost use Rattle.vt_redraw.specs.Refusals.{RefusedOnlyIfSome};
 ghost use Rattle.vt_screen.specs.DiffInternals.{IsPlainDiff};
 ghost use Rattle.vt_screen.specs.Diffs.{IsDiffWith, KeepsScreensPlain, MayRepeat, RepeatsOnlyInRows};
-ghost use Rattle.vt_screen.specs.Diffs.{diff_controls, finals_with, form_with, may_move};
-ghost use Rattle.vt_redraw.specs.declared.form.Form.TheVariants.{Fixed, Portable};
+ghost use Rattle.vt_screen.specs.Diffs.{diff_controls, finals_with, form_with};
 ghost use Rattle.vt_screen.specs.MadeOf.{IsMadeOf};
 ghost use Rattle.vt_screen.specs.Portable.{IsPortableFrom};
 ghost use Rattle.vt_screen.specs.RepeatInternals.{KeepsAgreed, KeepsPieces};
-ghost use Rattle.vt_screen.specs.Shown.{IsSameIfEmpty, RedrawsFrom, display, display_change, display_change_in, shown_text};
+ghost use Rattle.vt_screen.specs.Shown.{IsSameIfEmpty, RedrawsFrom, display, display_change_in, shown_text_in};
 ghost use Rattle.vt_screen.specs.TextResults.{IfText};
 
 use crate::diff_options::DiffOptions;
+use crate::redraw_options::form_of;
 use crate::repeat::Repeat;
 use crate::repeats::with_repeats;
 use crate::screen::Screen;
@@ -34,17 +34,17 @@ impl Screen {
     /// output is that of `contents_diff` or, with `scroll`, of `contents_diff_scrolling`.
     ///
     /// With `portable`, the output avoids sequences on whose effects terminals disagree, as that of
-    /// [`Screen::contents_formatted_with`] does, and moves no rows or columns. With `scroll`, it
-    /// moves the cursor with LF, CR, BS or CHA if that is shorter, but not with HT, since tab stops
-    /// may be cleared. If this screen is steady, terminals that display `prev` agree on the effect
+    /// [`Screen::contents_formatted_with`] does. With `scroll`, it may move rows, but no columns. It
+    /// then moves the cursor with LF, CR, BS or CHA if that is shorter, but not with HT, since tab
+    /// stops may be cleared. If this screen is steady, terminals that display `prev` agree on the effect
     /// of each sequence of the output (clause `portable`).
     ///
     /// The output contains only controls that draw and, if `repeat` allows any character, REP
     /// (clause `controls`).
     ///
-    /// The output is never longer than that of `contents_diff` or, with `portable`, than its
-    /// portable form (clause `shorter`). If rows or columns may be moved, it is never longer than
-    /// the full redraw either (clause `redraw`). Every terminal in ground state takes the same steps
+    /// The output is never longer than that of `contents_diff` (clause `shorter`) or, with `scroll`,
+    /// than the full redraw (clause `redraw`). With `portable`, both are compared in their portable
+    /// form. Every terminal in ground state takes the same steps
     /// for the output with REP as for the output with the runs written out (clause `text`). On a
     /// plain terminal that displays `prev`, the characters of each REP fit in the row (clause
     /// `rows`); terminals differ in how they treat characters that do not fit.
@@ -77,7 +77,8 @@ impl Screen {
         ensures again { IfText result KeepsScreensPlain }
         ensures shorter { IfText result
             (λ text. length text ≤ length (display_change_in (form_with options) prev.now self.now)) }
-        ensures redraw { IsTrue (may_move options) → IfText result (λ text. length text ≤ length (shown_text self.now)) }
+        ensures redraw { IsTrue options.scroll → IfText result
+            (λ text. length text ≤ length (shown_text_in (form_with options) self.now)) }
         ensures redraws { IfText result (RedrawsFrom prev.now self.now) }
         ensures empty { IfText result (IsSameIfEmpty prev.now self.now) }
         ensures none { IfText result (λ text. display self.now ≡ display prev.now → text ≡ []) }
@@ -102,71 +103,32 @@ impl Screen {
         ensures memory { OnlyOutOfMemory result }
         ensures nonempty { RefusedOnlyIfSome result (display_change_in (form_with options) prev.now self.now) }
     {
-        if !options.portable {
-            return self.diff_without_repeats(prev, options.scroll);
-        }
+        let form = form_of(options.portable);
         if options.scroll {
-            return self.short_portable_diff(prev);
+            let text = self.scrolling_diff(prev, form)?;
+            return Ok(text);
         }
-        self.portable_diff(prev)
+        let text = self.ordinary_diff(prev, form)?;
+        Ok(text)
     }
 
-    /// Returns the portable form of the ordinary diff.
+    /// Returns the ordinary diff in the given form: in the fixed form, the output of
+    /// [`Screen::contents_diff`].
     ///
     /// # Errors
     ///
     /// Returns `Error::OutOfMemory` if the output cannot be allocated.
-    fn portable_diff(&self, prev: &Screen) -> Result<String, Error>
+    fn ordinary_diff(&self, prev: &Screen, form: Form) -> Result<String, Error>
         requires { SameSize self.now.page prev.now.page }
-        ensures text { IfText result (IsPlainDiff Portable false prev.now self.now) }
+        ensures text { IfText result (IsPlainDiff form false prev.now self.now) }
         ensures memory { OnlyOutOfMemory result }
-        ensures nonempty { RefusedOnlyIfSome result (display_change_in Portable prev.now self.now) }
+        ensures nonempty { RefusedOnlyIfSome result (display_change_in form prev.now self.now) }
     {
         let mut text = String::new(self.alloc);
-        match self.write_contents_diff_in(&mut text, prev, Form::Portable) {
+        match self.write_contents_diff_in(&mut text, prev, form) {
             Ok(()) => Ok(text),
             Err(_) => Err(Error::OutOfMemory),
         }
-    }
-
-    /// Returns the portable form of the ordinary diff, or shorter portable output that has the same
-    /// effect but moves the cursor differently.
-    ///
-    /// # Errors
-    ///
-    /// Returns `Error::OutOfMemory` if the output, or output that it is compared with, cannot be
-    /// allocated.
-    fn short_portable_diff(&self, prev: &Screen) -> Result<String, Error>
-        requires { SameSize self.now.page prev.now.page }
-        ensures text { IfText result (IsPlainDiff Portable true prev.now self.now) }
-        ensures memory { OnlyOutOfMemory result }
-        ensures nonempty { RefusedOnlyIfSome result (display_change_in Portable prev.now self.now) }
-    {
-        let text = self.portable_diff(prev)?;
-        // Only for the proof: a named result lets the prover find the clauses of the call.
-        let short = prev.with_short_moves(text, Form::Portable)?;
-        Ok(short)
-    }
-
-    /// Returns the output that turns the display of `prev` into that of this screen: the scrolling
-    /// diff (see [`Screen::contents_diff_scrolling`]) if `scroll` is true, otherwise the ordinary
-    /// diff.
-    ///
-    /// # Errors
-    ///
-    /// Returns `Error::OutOfMemory` if the output cannot be allocated.
-    fn diff_without_repeats(&self, prev: &Screen, scroll: bool) -> Result<String, Error>
-        requires { SameSize self.now.page prev.now.page }
-        ensures text { IfText result (IsPlainDiff Fixed scroll prev.now self.now) }
-        ensures memory { OnlyOutOfMemory result }
-        ensures nonempty { RefusedOnlyIfSome result (display_change prev.now self.now) }
-    {
-        if scroll {
-            let text = self.contents_diff_scrolling(prev)?;
-            return Ok(text);
-        }
-        let text = self.contents_diff(prev)?;
-        Ok(text)
     }
 
     /// Returns the diff `plain` in which runs of the characters that `repeat` allows are written

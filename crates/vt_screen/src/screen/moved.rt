@@ -4,7 +4,7 @@
 //! The module `redraw` defines what a screen displays, when a terminal is plain, and when a screen
 //! is steady.
 
-ghost use Rattle.std.specs.Prelude.{◌≡◌, ◌<◌, ◌≤◌, ◌++◌, [], IsOk, IsTrue, OnOk, length, string_bytes};
+ghost use Rattle.std.specs.Prelude.{◌≡◌, ◌<◌, ◌≤◌, ◌++◌, [], IsOk, IsTrue, OnOk, length, string_bytes, true};
 ghost use Rattle.vt_cells.specs.Attrs.{default_attrs};
 ghost use Rattle.vt_cells.specs.Refusals.{OnlyOutOfMemory};
 ghost use Rattle.vt_grid.specs.Page.{IsPage, SameSize};
@@ -13,12 +13,15 @@ ghost use Rattle.vt_redraw.specs.Picture.{picture_of};
 ghost use Rattle.vt_redraw.specs.Shifted.{IsMoving, IsRowShift};
 ghost use Rattle.vt_redraw.specs.ShiftInternals.{AppendsShifting};
 ghost use Rattle.vt_redraw.specs.Refusals.{RefusedOnlyIfSome};
+ghost use Rattle.vt_redraw.specs.declared.form.Form.TheVariants.{Fixed};
 ghost use Rattle.vt_screen.specs.Again.{KeepsPlain};
+ghost use Rattle.vt_screen.specs.DiffInternals.{HasDiffProperties, IsPlainDiff};
 ghost use Rattle.vt_screen.specs.MadeOf.{IsMadeOf, shortened_controls, shortened_finals};
 ghost use Rattle.vt_screen.specs.Screen.{IsColored, IsScreen};
 ghost use Rattle.vt_screen.specs.Gaps.{IsShortVersion};
 ghost use Rattle.vt_screen.specs.ShortMoves.{IsMovingOrRedraw, IsShortMoving, IsShorterWithRedraw, known_cursor};
-ghost use Rattle.vt_screen.specs.Shown.{IsSameIfEmpty, RedrawsFrom, ShowsOwnPage, display, display_change, shown_text};
+ghost use Rattle.vt_screen.specs.Shown.{IsSameIfEmpty, RedrawsFrom, ShowsOwnPage, display, display_change};
+ghost use Rattle.vt_screen.specs.Shown.{display_change_in, shown_text};
 ghost use Rattle.vt_screen.specs.TextResults.{IfText};
 
 use crate::screen::Screen;
@@ -28,7 +31,7 @@ use vt_grid::Grid;
 use vt_redraw::pen::write_change;
 use vt_redraw::{
     Band, DrawnRows, Form, Move, RowShift, View, likely_move, write_contents_diff,
-    write_contents_diff_watched, write_contents_formatted_within, write_moves, write_row_shifts,
+    write_contents_diff_in, write_contents_formatted_within, write_moves, write_row_shifts,
 };
 
 /// The number of bytes with which each redraw begins: those that hide or show the cursor, reset the
@@ -87,22 +90,39 @@ impl Screen {
         ensures nonempty { RefusedOnlyIfSome result (display_change prev.now self.now) }
         ensures never { display self.now ≡ display prev.now → IsOk result }
     {
-        let moving = self.moving_diff(prev)?;
+        let text = self.scrolling_diff(prev, Form::Fixed)?;
+        Ok(text)
+    }
+
+    /// Returns the scrolling diff in the given form: in the fixed form, the output of
+    /// [`Screen::contents_diff_scrolling`]. In the portable form, the output moves no columns.
+    ///
+    /// # Errors
+    ///
+    /// Returns `Error::OutOfMemory` if the output, or output that it is compared with, cannot be
+    /// allocated.
+    pub(super) fn scrolling_diff(&self, prev: &Screen, form: Form) -> Result<String, Error>
+        requires { SameSize self.now.page prev.now.page }
+        ensures text { IfText result (IsPlainDiff form true prev.now self.now) }
+        ensures memory { OnlyOutOfMemory result }
+        ensures nonempty { RefusedOnlyIfSome result (display_change_in form prev.now self.now) }
+    {
+        let moving = self.moving_diff(prev, form)?;
         // Only for the proof: a named result lets the prover find the clauses of the call.
-        let shortest = self.or_redraw(moving)?;
+        let shortest = self.or_redraw(moving, form)?;
         Ok(shortest)
     }
 
-    /// Returns `text`, or the redraw of this screen if that is shorter.
+    /// Returns `text`, or the redraw of this screen in the given form if that is shorter.
     ///
     /// # Errors
     ///
     /// Returns `Error::OutOfMemory` if the redraw, up to the length of `text`, cannot be allocated.
     #[tactic(auto, using(crate::proofs::OrRedraw::redraw_least))]
-    fn or_redraw(&self, text: String) -> Result<String, Error>
+    fn or_redraw(&self, text: String, form: Form) -> Result<String, Error>
         ensures whole { IsScreen self.now }
         ensures colored { IsColored self.now }
-        ensures text { IfText result (IsShorterWithRedraw (display self.now) (string_bytes text)) }
+        ensures text { IfText result (IsShorterWithRedraw form (display self.now) (string_bytes text)) }
         ensures memory { OnlyOutOfMemory result }
         ensures nonempty { RefusedOnlyIfSome result (string_bytes text) }
     {
@@ -112,7 +132,7 @@ impl Screen {
             return Ok(text);
         }
         let mut redraw = String::new(self.alloc);
-        let is_whole = write_contents_formatted_within(&mut redraw, &view, len)?;
+        let is_whole = write_contents_formatted_within(&mut redraw, &view, form, len)?;
         if is_whole && redraw.len() < len {
             Ok(redraw)
         } else {
@@ -120,48 +140,46 @@ impl Screen {
         }
     }
 
-    /// Returns the escape sequences that turn the display of `prev` into the display of this
-    /// screen, as [`Screen::contents_diff_scrolling`] describes, but without comparing them with
-    /// the redraw.
+    /// Returns the output of [`Screen::scrolling_diff`], but without comparing it with the redraw.
     ///
     /// # Errors
     ///
     /// Returns `Error::OutOfMemory` if the output, or output that it is compared with, cannot be
     /// allocated.
-    fn moving_diff(&self, prev: &Screen) -> Result<String, Error>
+    fn moving_diff(&self, prev: &Screen, form: Form) -> Result<String, Error>
         requires { SameSize self.now.page prev.now.page }
-        ensures text { IfText result (IsShortMoving (display self.now) (display prev.now)) }
-        ensures controls { IfText result (IsMadeOf shortened_finals shortened_controls) }
-        ensures again { IfText result KeepsPlain }
-        ensures shorter { IfText result (λ text. length text ≤ length (display_change prev.now self.now)) }
-        ensures redraws { IfText result (RedrawsFrom prev.now self.now) }
-        ensures empty { IfText result (IsSameIfEmpty prev.now self.now) }
-        ensures none { IfText result (λ text. display self.now ≡ display prev.now → text ≡ []) }
+        ensures text { IfText result (IsShortMoving form (display self.now) (display prev.now)) }
+        ensures has { IfText result (HasDiffProperties form true prev.now self.now) }
         ensures memory { OnlyOutOfMemory result }
-        ensures nonempty { RefusedOnlyIfSome result (display_change prev.now self.now) }
+        ensures nonempty { RefusedOnlyIfSome result (display_change_in form prev.now self.now) }
     {
         let mut drawn = DrawnRows::new();
-        let text = self.watched_diff(prev, &mut drawn)?;
-        let moving = self.shortened(prev, text, &drawn)?;
+        let text = self.watched_diff(prev, form, &mut drawn)?;
+        let moving = self.shortened(prev, form, text, &drawn)?;
         // Only for the proof: a named result lets the prover find the clauses of the call.
-        let short = prev.with_short_moves(moving, Form::Fixed)?;
+        let short = prev.with_short_moves(moving, form)?;
         Ok(short)
     }
 
-    /// Returns the output of [`Screen::contents_diff`], and records in `drawn`, which must be empty,
-    /// the rows for which it contains output.
+    /// Returns the ordinary diff in the given form, and records in `drawn`, which must be empty, the
+    /// rows for which it contains output.
     ///
     /// # Errors
     ///
     /// Returns `Error::OutOfMemory` if the output cannot be allocated.
-    fn watched_diff(&self, prev: &Screen, drawn: &mut DrawnRows) -> Result<String, Error>
+    fn watched_diff(
+        &self,
+        prev: &Screen,
+        form: Form,
+        drawn: &mut DrawnRows,
+    ) -> Result<String, Error>
         requires { SameSize self.now.page prev.now.page }
-        ensures text { IfText result (λ text. text ≡ display_change prev.now self.now) }
+        ensures text { IfText result (λ text. text ≡ display_change_in form prev.now self.now) }
         ensures memory { OnlyOutOfMemory result }
-        ensures nonempty { RefusedOnlyIfSome result (display_change prev.now self.now) }
+        ensures nonempty { RefusedOnlyIfSome result (display_change_in form prev.now self.now) }
     {
         let mut text = String::new(self.alloc);
-        match write_contents_diff_watched(&mut text, &self.view(), &prev.view(), drawn) {
+        match write_contents_diff_in(&mut text, &self.view(), &prev.view(), form, drawn) {
             Ok(()) => Ok(text),
             Err(_) => Err(Error::OutOfMemory),
         }
@@ -203,68 +221,82 @@ impl Screen {
         }
     }
 
-    /// Returns the ordinary diff `text`, or shorter output that begins by moving rows or columns.
-    /// `drawn` holds the rows for which `text` contains output.
+    /// Returns the ordinary diff `text` in the given form, or shorter output that begins by moving
+    /// rows or columns. `drawn` holds the rows for which `text` contains output.
     ///
     /// # Errors
     ///
     /// Returns `Error::OutOfMemory` if the alternative output cannot be allocated.
-    fn shortened(&self, prev: &Screen, text: String, drawn: &DrawnRows) -> Result<String, Error>
+    fn shortened(
+        &self,
+        prev: &Screen,
+        form: Form,
+        text: String,
+        drawn: &DrawnRows,
+    ) -> Result<String, Error>
         requires size { SameSize self.now.page prev.now.page }
-        requires text { string_bytes text ≡ display_change prev.now self.now }
+        requires text { string_bytes text ≡ display_change_in form prev.now self.now }
         ensures whole { IsScreen self.now }
         ensures colored { IsColored self.now }
         ensures other { IsScreen prev.now }
         ensures other_colored { IsColored prev.now }
-        ensures text { IfText result (IsMoving (display self.now) (display prev.now)) }
-        ensures shorter { IfText result (λ text. length text ≤ length (display_change prev.now self.now)) }
+        ensures text { IfText result (IsMoving form (display self.now) (display prev.now)) }
+        ensures shorter { IfText result (λ text. length text ≤ length (display_change_in form prev.now self.now)) }
         ensures memory { OnlyOutOfMemory result }
-        ensures nonempty { RefusedOnlyIfSome result (display_change prev.now self.now) }
+        ensures nonempty { RefusedOnlyIfSome result (display_change_in form prev.now self.now) }
     {
-        match likely_move(&self.view(), &prev.view(), text.as_str(), drawn) {
+        match likely_move(&self.view(), &prev.view(), form, text.as_str(), drawn) {
             None => Ok(text),
-            Some(Move::Rows(band)) => self.shorter_of(prev, band, text),
+            Some(Move::Rows(band)) => self.shorter_of(prev, form, band, text),
             Some(Move::Columns(first)) => self.shorter_with_shifts(prev, first, text),
         }
     }
 
-    /// Returns the shorter of the ordinary diff `text` and the output that begins by moving the
-    /// rows of `band`.
+    /// Returns the shorter of the ordinary diff `text` in the given form and the output in that form
+    /// that begins by moving the rows of `band`.
     ///
     /// # Errors
     ///
     /// Returns `Error::OutOfMemory` if the alternative output cannot be allocated.
-    fn shorter_of(&self, prev: &Screen, band: Band, text: String) -> Result<String, Error>
+    fn shorter_of(
+        &self,
+        prev: &Screen,
+        form: Form,
+        band: Band,
+        text: String,
+    ) -> Result<String, Error>
         requires size { SameSize self.now.page prev.now.page }
         requires band { IsBand (length (display prev.now).rows) band }
-        requires text { string_bytes text ≡ display_change prev.now self.now }
-        ensures text { IfText result (IsMoving (display self.now) (display prev.now)) }
-        ensures shorter { IfText result (λ text. length text ≤ length (display_change prev.now self.now)) }
+        requires text { string_bytes text ≡ display_change_in form prev.now self.now }
+        ensures text { IfText result (IsMoving form (display self.now) (display prev.now)) }
+        ensures shorter { IfText result (λ text. length text ≤ length (display_change_in form prev.now self.now)) }
         ensures memory { OnlyOutOfMemory result }
     {
         let mut moved = String::new(self.alloc);
-        match self.write_moved_diff(&mut moved, prev, band) {
+        match self.write_moved_diff(&mut moved, prev, form, band) {
             Err(_) => Err(Error::OutOfMemory),
             Ok(()) if moved.len() < text.len() => Ok(moved),
             Ok(()) => Ok(text),
         }
     }
 
-    /// Writes the escape sequences that move the rows of `band`, followed by the sequences that
-    /// turn the resulting display into that of this screen.
+    /// Writes the escape sequences that move the rows of `band`, followed by the sequences in the
+    /// given form that turn the resulting display into that of this screen.
     fn write_moved_diff<S: Sink>(
         &self,
         sink: &mut S,
         prev: &Screen,
+        form: Form,
         band: Band,
     ) -> Result<(), S::Error>
         requires size { SameSize self.now.page prev.now.page }
         requires band { IsBand (length (display prev.now).rows) band }
         ensures text { OnOk result
-            (S.text sink.new ≡ S.text sink.old ++ scrolling_text band (display self.now) (display prev.now)) }
+            (S.text sink.new ≡ S.text sink.old ++ scrolling_text form band (display self.now) (display prev.now)) }
     {
         write_moves(sink, &prev.view(), band)?;
-        write_contents_diff(sink, &self.view(), &prev.moved_view(band))
+        let moved = prev.moved_view(band);
+        write_contents_diff_in(sink, &self.view(), &moved, form, &mut ())
     }
 
     /// Returns the shorter of the ordinary diff `text` and the output that begins by shifting
@@ -284,7 +316,7 @@ impl Screen {
         requires size { SameSize self.now.page prev.now.page }
         requires first { IsRowShift (length (display prev.now).rows) (display prev.now).width first }
         requires text { string_bytes text ≡ display_change prev.now self.now }
-        ensures text { IfText result (IsMoving (display self.now) (display prev.now)) }
+        ensures text { IfText result (IsMoving Fixed (display self.now) (display prev.now)) }
         ensures shorter { IfText result (λ text. length text ≤ length (display_change prev.now self.now)) }
         ensures memory { OnlyOutOfMemory result }
     {

@@ -188,8 +188,8 @@ impl Screen {
     /// output is that of `contents_formatted`.
     ///
     /// If this screen is steady, a plain terminal of its size that has read the output is plain and
-    /// displays this screen (clause `redraws`). With `portable`, terminals agree on the effect of
-    /// each sequence of the output, whatever they differ in before (clause `portable`). Steady
+    /// displays this screen (clause `redraws`). With `portable`, terminals then agree on the effect
+    /// of each sequence of the output, whatever they differ in before (clause `portable`). Steady
     /// screens of the same size with different displays have different output (clause `same`). Even
     /// if the screen is not steady, the output contains only controls that draw (clause `controls`),
     /// and a plain terminal that has read it is plain again (clause `again`).

@@ -4,16 +4,16 @@
 //! The documentation of the module `redraw` defines what a screen displays,
 //! when a terminal is plain, and when a screen is steady.
 
-ghost use Rattle.std.specs.Prelude.{◌≡◌, ◌++◌, [], IsOk, OnOk};
+ghost use Rattle.std.specs.Prelude.{◌≡◌, ◌++◌, IsOk, OnOk};
 ghost use Rattle.vt_cells.specs.Refusals.{OnlyOutOfMemory};
 ghost use Rattle.vt_grid.specs.Page.{SameSize};
 ghost use Rattle.vt_redraw.specs.Refusals.{RefusedOnlyIfSome};
-ghost use Rattle.vt_redraw.specs.Steady.{IsSteady};
 ghost use Rattle.vt_screen.specs.MadeOf.{IsMadeOf, drawing_finals, state_controls};
 ghost use Rattle.vt_screen.specs.Screen.{IsColored, IsScreen};
 ghost use Rattle.vt_screen.specs.Shown.{display};
-ghost use Rattle.vt_screen.specs.States.{AreModes, GivesState, HasDefaultMouseAndStyle, IsStateReader, IsStateReaderOf};
-ghost use Rattle.vt_screen.specs.States.{SetsModesPlainly, state_change, state_text};
+ghost use Rattle.vt_screen.specs.States.{AreModes, GivesState, HasDefaultMouseAndStyle, IsEmptyIfSameState};
+ghost use Rattle.vt_screen.specs.States.{IsSameStateIfEmpty, IsStateReader, IsStateReaderOf, SetsModesPlainly, state_change};
+ghost use Rattle.vt_screen.specs.States.{state_text};
 ghost use Rattle.vt_screen.specs.TextResults.{IfText};
 
 use crate::screen::Screen;
@@ -104,10 +104,8 @@ impl Screen {
         ensures controls { IfText result (IsMadeOf drawing_finals state_controls) }
         ensures again { IfText result (SetsModesPlainly (AreModes prev.now.modes) self.now.modes) }
         ensures gives { IfText result (GivesState (IsStateReaderOf self.now prev.now) self.now) }
-        ensures empty { IfText result (λ text. IsSteady (display self.now) → text ≡ [] →
-            (display self.now ≡ display prev.now) × (self.now.modes ≡ prev.now.modes)) }
-        ensures none { IfText result
-            (λ text. display self.now ≡ display prev.now → self.now.modes ≡ prev.now.modes → text ≡ []) }
+        ensures empty { IfText result (IsSameStateIfEmpty prev.now self.now) }
+        ensures none { IfText result (IsEmptyIfSameState prev.now self.now) }
         ensures memory { OnlyOutOfMemory result }
         ensures nonempty { RefusedOnlyIfSome result (state_change prev.now self.now) }
         ensures never { display self.now ≡ display prev.now → self.now.modes ≡ prev.now.modes → IsOk result }

@@ -18,6 +18,9 @@ returns g c =
       state_diff = λ was modes p q chunks sets had plain ran fine.
           leaves_modes does modes p q (pieces_joined chunks) plain.scanner (sets p.screen plain.screen had)
           (ran_joined does p q chunks ran) fine;
+      state_screens = λ was modes p q chunks sets had sound plain ran fine.
+          leaves_modes does modes p q (pieces_joined chunks) plain.scanner (sets p.screen sound plain.screen had)
+          (ran_joined does p q chunks ran) fine;
       made = λ p q chunks makes is ran fine.
           leaves_plain does p q (pieces_joined chunks) is.scanner (makes p.screen is.sound is.offset)
           (ran_joined does p q chunks ran) fine;

@@ -1,5 +1,6 @@
 use Rattle.vt_screen.proofs.Escapes.{capture_only, drawn_only, plain_only, reset_only, shortened_moves_only, state_only}
-use Rattle.vt_screen.proofs.Escapes.{with_options_only, with_scrolling_only}
+use Rattle.vt_screen.proofs.Escapes.{state_with_options_only, state_with_scrolling_only, with_options_only}
+use Rattle.vt_screen.proofs.Escapes.{with_scrolling_only}
 use Rattle.vt_screen.proofs.laws.escapes.Goals as goal
 
 pub returns-clause-drawing : goal.returns-clause-drawing
@@ -19,6 +20,12 @@ returns-clause-reset c = reset_only
 
 pub returns-clause-state : goal.returns-clause-state
 returns-clause-state c = state_only
+
+pub returns-clause-state_with_options : goal.returns-clause-state_with_options
+returns-clause-state_with_options c = state_with_options_only
+
+pub returns-clause-state_with_scrolling : goal.returns-clause-state_with_scrolling
+returns-clause-state_with_scrolling c = state_with_scrolling_only
 
 pub returns-clause-capture : goal.returns-clause-capture
 returns-clause-capture c = capture_only

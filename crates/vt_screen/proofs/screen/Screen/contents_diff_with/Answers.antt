@@ -4,7 +4,7 @@ use Rattle.vt_screen.proofs.ContentTexts.{none_refused}
 use Rattle.vt_screen.specs.Diffs.{form_with}
 use Rattle.vt_screen.proofs.Forms.{difference_none_in}
 use Rattle.vt_screen.proofs.RepeatedDiffs.{diff_again, diff_empty, diff_made, diff_none, diff_redraw, diff_redraws, diff_rows}
-use Rattle.vt_screen.proofs.RepeatedDiffs.{diff_portable, moving_fixed}
+use Rattle.vt_screen.proofs.RepeatedDiffs.{diff_portable}
 use Rattle.vt_screen.proofs.screen.Screen.contents_diff_with.Goals as goal
 
 pub returns-clause-text : goal.returns-clause-text
@@ -12,7 +12,7 @@ returns-clause-text c =
     let is = c.in_ok-plain.ensures.text in record {
       plain = string_bytes c.in_ok-plain.plain;
       diff = is.diff;
-      controls = is.controls;
+      controls = is.has.controls;
       repeats = c.in_ok-text.ensures.text;
     }
 
@@ -47,11 +47,9 @@ returns-clause-none c =
     (string_bytes c.in_ok-text.text) c.in_ok-plain.ensures.text c.in_ok-text.ensures.text
 
 pub returns-clause-redraw : goal.returns-clause-redraw
-returns-clause-redraw c moves =
+returns-clause-redraw c scrolls =
     diff_redraw c.args.options.repeat (form_with c.args.options) c.args.options.scroll c.args.prev.now c.args.self.now (string_bytes c.in_ok-plain.plain)
-    (string_bytes c.in_ok-text.text) c.in_ok-plain.ensures.text c.in_ok-text.ensures.text
-    (moving_fixed c.args.options.portable c.args.options.scroll moves).0
-    (moving_fixed c.args.options.portable c.args.options.scroll moves).1
+    (string_bytes c.in_ok-text.text) c.in_ok-plain.ensures.text c.in_ok-text.ensures.text scrolls
 
 pub returns-clause-controls : goal.returns-clause-controls
 returns-clause-controls c =

@@ -5,10 +5,10 @@ use Rattle.vt_screen.specs.Shown.{display}
 use Rattle.vt_screen.proofs.Viewing.{same_shown}
 use Rattle.vt_screen.proofs.screen.Screen.write_moved_diff.Goals as goal
 
-pub write_contents_diff-requires : goal.write_contents_diff-requires
-write_contents_diff-requires g c =
+pub write_contents_diff_in-requires : goal.write_contents_diff_in-requires
+write_contents_diff_in-requires g c =
     let before = display c.args.prev.now in
-    subst (λ (p : Picture). SamePictureSize p c.moved_view.result) (sym c.view-2.ensures.value)
-    (subst (λ (p : Picture). SamePictureSize (display c.args.self.now) p) (sym c.moved_view.ensures)
+    subst (λ (p : Picture). SamePictureSize p c.moved_view-moved.result) (sym c.view-2.ensures.value)
+    (subst (λ (p : Picture). SamePictureSize (display c.args.self.now) p) (sym c.moved_view-moved.ensures)
     (moved_size (display c.args.self.now) before c.args.band
     (same_shown c.args.self.now c.args.prev.now c.requires.size)))
