@@ -7,10 +7,11 @@ use Rattle.vt_cells.specs.declared.error.Error.{Error}
 use Rattle.vt_redraw.specs.Steady.{IsSteady}
 use Rattle.vt_screen.specs.Screen.{IsScreen, ScreenValue}
 use Rattle.vt_screen.specs.Shown.{display}
+use Rattle.vt_screen.specs.declared.diff_options.DiffOptions.{DiffOptions}
 use Rattle.vt100.specs.Parser.{ParserValue}
 use Rattle.vt100.specs.Pieces as pieces
 use Rattle.vt100.specs.Pieces.{IsPlainParser, processing}
-use Rattle.vt_mirror.specs.Calls.{Asks, JoinsMirror, Kind, MirrorProcesses}
+use Rattle.vt_mirror.specs.Calls.{Asks, JoinsMirror, MirrorProcesses}
 use Rattle.vt_mirror.specs.Mirror.{MirrorValue}
 use Rattle.vt_mirror.specs.Watching.{Ask, Goes, IsFresh, IsLeft, IsNew, IsTakenBy, Join, MirrorCall, Process}
 use Rattle.vt_mirror.specs.Watching.{ReadsText, Sees, ShowsSeen, TakesUpdate, TakesSize, Watching}
@@ -38,12 +39,12 @@ pub late_shows : {S : Type 0} →
     ((number : ℕ) (calls : List MirrorCall) (old new : Watching S) → IsFresh old.mirror →
     IsNew old → FoldsTo (Goes number) old calls new → ShowsSeen new) →
     (before read joined told : MirrorValue) (output : List ℕ)
-    (answer : Result (Unit {0}) Error) (number : ℕ) (kind : Kind) (update : Update) (old new : ParserValue S)
+    (answer : Result (Unit {0}) Error) (number : ℕ) (options : DiffOptions) (update : Update) (old new : ParserValue S)
     → IsFresh before
     → IsScreen old.screen → IsPlainParser old → MirrorProcesses before output answer read → joined.parser ≡ read.parser
-    → JoinsMirror read.viewers (Ok number) joined.viewers → Asks kind joined number (Ok (Some update)) told
+    → JoinsMirror read.viewers (Ok number) joined.viewers → Asks options joined number (Ok (Some update)) told
     → TakesUpdate update old new → IsSteady (display told.parser.screen) → ShowsScreen told.parser.screen new
-late_shows {S} law before read joined told output answer number kind update
+late_shows {S} law before read joined told output answer number options update
     old new fresh sound plain processes same joins asks takes steady =
     let first : Watching S = record { mirror = before; viewer = old; seen = None } in
     let second : Watching S = record { mirror = read; viewer = old; seen = None } in
@@ -58,8 +59,8 @@ late_shows {S} law before read joined told output answer number kind update
     let reading : IsLeft first second = record { viewer = refl; seen = refl } in
     let joining : IsLeft second third = record { viewer = refl; seen = refl } in
     let goes : FoldsTo (Goes number) first
-    (Process output answer ∷ Join (Ok number) ∷ Ask kind number (Ok (Some update)) ∷ []) last
+    (Process output answer ∷ Join (Ok number) ∷ Ask options number (Ok (Some update)) ∷ []) last
     = (second, (processes, reading), (third, ((same, joins), joining), (last, (asks, taken), refl))) in
-    let all = law number (Process output answer ∷ Join (Ok number) ∷ Ask kind number (Ok (Some update)) ∷ [])
+    let all = law number (Process output answer ∷ Join (Ok number) ∷ Ask options number (Ok (Some update)) ∷ [])
     first last fresh (record { sound = sound; plain = plain; seen = refl }) goes in
     record { plain = all.plain; shows = all.shows ∙ ap display (sym screens) }

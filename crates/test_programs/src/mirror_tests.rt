@@ -48,23 +48,37 @@ enum Call {
     /// update with the given size, and with the given text after [`CLEAR`].
     FullScrolling(u64, (u16, u16), &'static str),
 
-    /// Requests an update with [`OPTIONS`] for a number that no viewer has.
-    NobodyWith(u64),
+    /// Requests an update with options for a number that no viewer has.
+    NobodyWith(u64, DiffOptions),
 
-    /// Requests an update with [`OPTIONS`] for the viewer with the given number; the update must be
-    /// the given diff.
-    DiffWith(u64, &'static str),
+    /// Requests an update with options for the viewer with the given number; the update must be the
+    /// given diff.
+    DiffWith(u64, DiffOptions, &'static str),
 
-    /// Requests an update with [`OPTIONS`] for the viewer with the given number; the update must be
-    /// a full update with the given size, and with the given text after [`CLEAR`].
-    FullWith(u64, (u16, u16), &'static str),
+    /// Requests an update with options for the viewer with the given number; the update must be a
+    /// full update with the given size, and with the given text after [`CLEAR`].
+    FullWith(u64, DiffOptions, (u16, u16), &'static str),
 }
 
 /// Rows and columns may move, and printable ASCII characters may be repeated with REP.
-const OPTIONS: DiffOptions = DiffOptions {
+const SHORT: DiffOptions = DiffOptions {
     scroll: true,
     repeat: Repeat::Ascii,
     portable: false,
+};
+
+/// Printable ASCII characters may be repeated with REP.
+const REPEATING: DiffOptions = DiffOptions {
+    scroll: false,
+    repeat: Repeat::Ascii,
+    portable: false,
+};
+
+/// The output must be portable.
+const PORTABLE: DiffOptions = DiffOptions {
+    scroll: false,
+    repeat: Repeat::Never,
+    portable: true,
 };
 
 /// The beginning of the text of a full update.
@@ -217,16 +231,38 @@ const TOGETHER: [Call; 16] = [
 /// scrolled off the top is deleted.
 #[rattlefmt::skip]
 const WITH_OPTIONS: [Call; 10] = [
-    Call::NobodyWith(0),
+    Call::NobodyWith(0, SHORT),
     Call::Join(0),
-    Call::FullWith(0, (4, 10), ""),
+    Call::FullWith(0, SHORT, (4, 10), ""),
     Call::Process("--------"),
-    Call::DiffWith(0, "-\x1b[7b"),
-    Call::DiffWith(0, ""),
+    Call::DiffWith(0, SHORT, "-\x1b[7b"),
+    Call::DiffWith(0, SHORT, ""),
     Call::Process("\r\nalpha\r\n==\r\ngamma"),
     Call::Diff(0, "\r\nalpha\r\n==\r\ngamma"),
     Call::Process("\r\n********"),
-    Call::DiffWith(0, "\x1b[H\x1b[M\n\n\n*\x1b[7b"),
+    Call::DiffWith(0, SHORT, "\x1b[H\x1b[M\n\n\n*\x1b[7b"),
+];
+
+/// Calls with and without the option for portable output: a full update or a diff that is portable
+/// changes from dim to bold, or back, only after a reset (`CSI m`). Viewers that were last updated
+/// to the same screen get different texts for different options.
+#[rattlefmt::skip]
+const PORTABLE_AND_NOT: [Call; 15] = [
+    Call::Join(0),
+    Call::Join(1),
+    Call::Join(2),
+    Call::Process("\x1b[2ma\x1b[22;1mb"),
+    Call::FullWith(0, PORTABLE, (2, 12), "\x1b[2ma\x1b[m\x1b[1mb"),
+    Call::Full(1, (2, 12), "\x1b[2ma\x1b[1mb"),
+    Call::FullWith(2, PORTABLE, (2, 12), "\x1b[2ma\x1b[m\x1b[1mb"),
+    Call::Process("\x1b[22;2mc"),
+    Call::Diff(0, "\x1b[2mc"),
+    Call::DiffWith(1, PORTABLE, "\x1b[m\x1b[2mc"),
+    Call::Diff(2, "\x1b[2mc"),
+    Call::Process("--------"),
+    Call::DiffWith(0, REPEATING, "-\x1b[7b"),
+    Call::Diff(1, "--------"),
+    Call::DiffWith(2, REPEATING, "-\x1b[7b"),
 ];
 
 /// Creates a mirror with the given number of rows and columns, without scrollback.
@@ -264,10 +300,12 @@ fn answers(mirror: &mut Mirror, call: Call) -> Result<bool, Fail> {
         Call::FullScrolling(viewer, size, text) => {
             is_full(mirror.update_scrolling(viewer)?, size, text)
         }
-        Call::NobodyWith(viewer) => Ok(mirror.update_with(viewer, OPTIONS)?.is_none()),
-        Call::DiffWith(viewer, text) => is_diff(mirror.update_with(viewer, OPTIONS)?, text),
-        Call::FullWith(viewer, size, text) => {
-            is_full(mirror.update_with(viewer, OPTIONS)?, size, text)
+        Call::NobodyWith(viewer, options) => Ok(mirror.update_with(viewer, options)?.is_none()),
+        Call::DiffWith(viewer, options, text) => {
+            is_diff(mirror.update_with(viewer, options)?, text)
+        }
+        Call::FullWith(viewer, options, size, text) => {
+            is_full(mirror.update_with(viewer, options)?, size, text)
         }
     }
 }
@@ -371,4 +409,9 @@ fn heals_after_an_unsteady_screen(rt: HostRuntime) -> Result<(), Fail> {
 #[test]
 fn repeats_characters_and_moves_rows(rt: HostRuntime) -> Result<(), Fail> {
     expect_all(&mut mirror(rt.alloc(), (4, 10))?, &WITH_OPTIONS)
+}
+
+#[test]
+fn writes_portable_updates_for_those_who_ask(rt: HostRuntime) -> Result<(), Fail> {
+    expect_all(&mut mirror(rt.alloc(), (2, 12))?, &PORTABLE_AND_NOT)
 }

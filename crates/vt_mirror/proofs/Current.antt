@@ -11,11 +11,12 @@ use Rattle.std.specs.List.{list_any}
 use Rattle.std.specs.Ordering.{nat_cmp}
 use Rattle.std.specs.Prelude.{cond, filter}
 use Rattle.vt_screen.specs.Screen.{ScreenValue}
-use Rattle.vt_mirror.specs.Kept.{AreShared, Copies, DiffFrom, HasVersion, IsCurrentNote, IsRenewed, KeptValue}
-use Rattle.vt_mirror.specs.Kept.{current_in, have_one_version, is_of_current, noted_at}
+use Rattle.vt_mirror.specs.Kept.{AreShared, Copies, HasVersion, IsCurrentNote, IsRenewed, KeptValue}
+use Rattle.vt_mirror.specs.Kept.{current_in, have_one_version, is_of_current, no_texts, noted_at}
 use Rattle.vt_mirror.specs.Kept.{screen_of, screens_of}
 use Rattle.vt_mirror.specs.Viewers.{AreViewers, PutsAmong, ViewersValue, is_among, is_viewer}
 use Rattle.vt_mirror.specs.declared.copies.Note.{Note}
+use Rattle.vt_mirror.specs.declared.texts.Texts.{Texts}
 use Rattle.vt_mirror.proofs.Bookkeeping.{at_other, same_number}
 use Rattle.vt_mirror.proofs.Keeping.{note_is}
 
@@ -91,22 +92,16 @@ seen_current viewers notes current seen viewer found a e is noted =
 
 -- ---- and what becomes of it
 
--- The kept values after the screen changed: neither the copy of the current screen nor its redraw is kept.
-abbrev kept_after : ViewersValue → (diff scrolling : Option DiffFrom) → List ℕ → KeptValue
-kept_after viewers diff scrolling current_viewers = record {
-  viewers = viewers;
-  current = None;
-  diff = diff;
-  scrolling = scrolling;
-  redraw = None;
-  current_viewers = current_viewers;
-}
+-- The kept values after the screen changed: neither the copy of the current screen nor a text is kept.
+abbrev kept_after : ViewersValue → Texts → List ℕ → KeptValue
+kept_after viewers texts current_viewers =
+    record { viewers = viewers; current = None; texts = texts; current_viewers = current_viewers }
 
-pub kept_changed : (viewers : ViewersValue) (notes : List (ℕ × Note)) (seen : ViewersValue) (diff scrolling : Option DiffFrom)
-    → record viewers { notes = screens_of notes } ≡ seen → diff ≡ None → scrolling ≡ None
-    → kept_after (record viewers { notes = screens_of notes }) diff scrolling (current_in viewers.numbers notes None)
-    ≡ kept_after seen None None []
-kept_changed viewers notes seen diff scrolling e f g = λ j. kept_after (e j) (f j) (g j) (none_of viewers.numbers j)
+pub kept_changed : (viewers : ViewersValue) (notes : List (ℕ × Note)) (seen : ViewersValue) (texts : Texts)
+    → record viewers { notes = screens_of notes } ≡ seen → texts ≡ no_texts
+    → kept_after (record viewers { notes = screens_of notes }) texts (current_in viewers.numbers notes None)
+    ≡ kept_after seen no_texts []
+kept_changed viewers notes seen texts e f = λ j. kept_after (e j) (f j) (none_of viewers.numbers j)
 
 own_version : (note : Note) → 0 < note.version → have_one_version note note ≡ true
 own_version note numbered = grind (arith, nat_tests, numbered)

@@ -1,34 +1,36 @@
 -- A viewer recovers: it displays the screen of its last update if that screen was steady, whatever came before.
 use Rattle.std.proofs.Common.{◌≡◌, ℕ, true, false, List, [], ◌∷◌, Option, Some, None, refl, sym, ap, subst, ◌∙◌}
 use Rattle.std.specs.Prelude.{Result, Ok, Err, IfSome, string_bytes}
-use Rattle.std.proofs.lemmas.Bool.{false≢true}
 use Rattle.std.specs.List.{FoldsTo}
 use Rattle.vt_cells.specs.declared.error.Error.{Error}
 use Rattle.vt_grid.specs.Page.{SameSize}
 use Rattle.vt_redraw.specs.Picture.{SamePictureSize}
 use Rattle.vt_redraw.specs.Steady.{IsSteady}
+use Rattle.vt_redraw.specs.declared.form.Form.{Form}
 use Rattle.vt_scan.specs.Automaton.{State, start}
 use Rattle.vt_scan.specs.Run.{run}
 use Rattle.vt_scan.specs.Scanner.{StandsFor}
 use Rattle.vt_screen.specs.Again.{LeavesPlain}
+use Rattle.vt_screen.specs.Diffs.{form_with}
 use Rattle.vt_screen.specs.Run.{CallRelation}
 use Rattle.vt_screen.specs.Screen.{IsScreen, ScreenValue}
 use Rattle.vt_screen.specs.Shown.{IsPlain, IsReader, IsReaderOf, KeepsRest, Redraws, RedrawsFrom, display}
+use Rattle.vt_screen.specs.declared.diff_options.DiffOptions.{DiffOptions}
 use Rattle.vt_screen.proofs.NoCallbacks.{reported_events}
-use Rattle.vt_screen.proofs.RepeatedDiffs.{of_may_repeat, repeated_leaves, repeated_redraws}
 use Rattle.vt_screen.proofs.Viewing.{same_shown}
 use Rattle.vt100.specs.Parser.{ParserValue, Ran, stage}
 use Rattle.vt100.specs.Pieces.{IsPlainParser}
 use Rattle.vt100.proofs.Pieces.{ran_read}
 use Rattle.vt100.proofs.Running.{ran_joined}
-use Rattle.vt_mirror.specs.Calls.{Asks, Drawn, GivesUpdate, IsFull, IsUpdate, Kind, Repeating, Scrolling}
-use Rattle.vt_mirror.specs.Healing.{GoesAny, IsTakenFine, ReadsFine, SeesAny, ShowsSteady, TakesFine, WatchesAny, may_move}
+use Rattle.vt_mirror.specs.Calls.{Asks, GivesUpdate, IsFull, IsUpdate}
+use Rattle.vt_mirror.specs.Healing.{GoesAny, IsTakenFine, ReadsFine, SeesAny, ShowsSteady, TakesFine, WatchesAny}
 use Rattle.vt_mirror.specs.Viewers.{note_of}
 use Rattle.vt_mirror.specs.Watching.{Ask, IsFresh, IsLeft, IsNew, Join, Leave, MirrorCall, MirrorDoes, Process, SetSize}
 use Rattle.vt_mirror.specs.Watching.{TakesSize, Watching}
 use Rattle.vt_mirror.specs.declared.update.Update.{Update}
 use Rattle.vt_mirror.specs.declared.update.Update.TheVariants.{Diff, Full}
 use Rattle.vt_mirror.proofs.Bookkeeping.{by_number, none_some}
+use Rattle.vt_mirror.proofs.Options.{sent_for}
 use Rattle.vt_mirror.proofs.Watching.{NotedBefore, before_equal, before_join, before_none, before_resize, before_same}
 use Rattle.vt_mirror.proofs.Watching.{takes_size}
 
@@ -78,11 +80,11 @@ heals_diff does self prev text p q leaves size redraws sound plain shows t =
       shows = shows;
     }) t
 
-heals_full : {S : Type 0} (does : CallRelation S) (self : ScreenValue) (rows cols : ℕ) (text : List ℕ)
-    (p sized q : ParserValue S) → IsFull self rows cols text → IsScreen p.screen → IsPlainParser p
+heals_full : {S : Type 0} (does : CallRelation S) (form : Form) (self : ScreenValue) (rows cols : ℕ) (text : List ℕ)
+    (p sized q : ParserValue S) → IsFull form self rows cols text → IsScreen p.screen → IsPlainParser p
     → TakesSize rows cols p sized → ReadsFine does text sized q → Heals self q
-heals_full does self rows cols text p sized q full sound plain takes t =
-    let s = takes_size self rows cols text p sized full takes sound plain in
+heals_full does form self rows cols text p sized q full sound plain takes t =
+    let s = takes_size form self rows cols text p sized full takes sound plain in
     heals_by does self (IsReader (display self)) text sized q (full.again sized.screen s.plain.screen) full.redraws s.plain
     (record {
       sound = s.sound;
@@ -93,32 +95,20 @@ heals_full does self rows cols text p sized q full sound plain takes t =
     t
 
 -- Reading an update makes the viewer recover, if it displays the recorded screen whenever that is steady.
-heals_update : {S : Type 0} (does : CallRelation S) (kind : Kind) (self : ScreenValue) (noted : Option ScreenValue)
-    (update : Update) (p q : ParserValue S) → may_move kind ≡ true
+heals_update : {S : Type 0} (does : CallRelation S) (options : DiffOptions) (self : ScreenValue) (noted : Option ScreenValue)
+    (update : Update) (p q : ParserValue S) → options.scroll ≡ true
     → ((prev : ScreenValue) → noted ≡ Some prev → IsSteady (display prev) → display p.screen ≡ display prev)
-    → IsUpdate kind self noted update → IsScreen p.screen → IsPlainParser p → TakesFine does update p q
+    → IsUpdate options self noted update → IsScreen p.screen → IsPlainParser p → TakesFine does update p q
     → Heals self q
-heals_update does kind self None (Full rows cols text) p q moves shows is sound plain t =
-    heals_full does self rows cols (string_bytes text) p t.0 q is sound plain t.1 t.2
-heals_update does kind self None (Diff text) p q moves shows is sound plain t = absurd is
-heals_update does Drawn self (Some prev) update p q moves shows is sound plain t = absurd (false≢true moves)
-heals_update does Scrolling self (Some prev) (Diff text) p q moves shows is sound plain t =
-    heals_diff does self prev (string_bytes text) p q (is.diff.again p.screen plain.screen) is.diff.size is.diff.redraws
-    sound plain (shows prev refl is.from_steady) t
-heals_update does Scrolling self (Some prev) (Full rows cols text) p q moves shows is sound plain t =
-    heals_full does self rows cols (string_bytes text) p t.0 q is.1 sound plain t.1 t.2
-heals_update does (Repeating false repeat) self (Some prev) update p q moves shows is sound plain t =
-    absurd (false≢true moves)
-heals_update does (Repeating true repeat) self (Some prev) (Diff text) p q moves shows is sound plain t =
-    let short = string_bytes text in
-    let diff = is.is.diff in
-    let same = (of_may_repeat repeat prev is.plain short is.repeats).same in
-    heals_diff does self prev short p q
-    (repeated_leaves is.plain short p.screen (same p.screen sound) (diff.again p.screen plain.screen))
-    diff.size (repeated_redraws prev self is.plain short same diff.redraws)
-    sound plain (shows prev refl is.is.from_steady) t
-heals_update does (Repeating true repeat) self (Some prev) (Full rows cols text) p q moves shows is sound plain t =
-    heals_full does self rows cols (string_bytes text) p t.0 q is.1 sound plain t.1 t.2
+heals_update does options self None (Full rows cols text) p q moves shows is sound plain t =
+    heals_full does (form_with options) self rows cols (string_bytes text) p t.0 q is sound plain t.1 t.2
+heals_update does options self None (Diff text) p q moves shows is sound plain t = absurd is
+heals_update does options self (Some prev) (Diff text) p q moves shows is sound plain t =
+    let sent = sent_for options self prev (string_bytes text) is in
+    heals_diff does self prev (string_bytes text) p q (sent.again p.screen sound plain.screen) sent.size sent.redraws
+    sound plain (shows prev refl (sent.from_steady moves)) t
+heals_update does options self (Some prev) (Full rows cols text) p q moves shows is sound plain t =
+    heals_full does (form_with options) self rows cols (string_bytes text) p t.0 q is.full sound plain t.1 t.2
 
 -- ---- one call
 
@@ -142,13 +132,13 @@ holds_left {S} number old new before l h = record {
       (subst (λ (o : Option ScreenValue). ShowsIfSteady old.viewer o) (sym l.seen) h.shows);
 }
 
-holds_own : {S : Type 0} (does : CallRelation S) (kind : Kind) (number : ℕ) (update : Update) (old new : Watching S) →
-    GivesUpdate kind old.mirror number update new.mirror → SeesAny does kind update old new → Holds number old →
+holds_own : {S : Type 0} (does : CallRelation S) (options : DiffOptions) (number : ℕ) (update : Update) (old new : Watching S) →
+    GivesUpdate options old.mirror number update new.mirror → SeesAny does options update old new → Holds number old →
     Holds number new
-holds_own {S} does kind number update old new t s h =
+holds_own {S} does options number update old new t s h =
     let self = old.mirror.parser.screen in
     let noted = note_of old.mirror.viewers number in
-    let p = heals_update does kind self noted update old.viewer new.viewer s.scrolling
+    let p = heals_update does options self noted update old.viewer new.viewer s.scrolling
     (λ prev e. subst (λ (o : Option ScreenValue). ShowsIfSteady old.viewer o) (h.noted prev e) h.shows)
     t.text h.sound h.plain s.takes in
     record {
@@ -158,24 +148,24 @@ holds_own {S} does kind number update old new t s h =
       shows = subst (λ (o : Option ScreenValue). ShowsIfSteady new.viewer o) (sym s.seen) p.shows;
     }
 
-holds_taken : {S : Type 0} (does : CallRelation S) (kind : Kind) (number asked : ℕ) (update : Update)
-    (old new : Watching S) → GivesUpdate kind old.mirror asked update new.mirror →
-    IsTakenFine does number kind asked update old new → Holds number old → Holds number new
-holds_taken {S} does kind number asked update old new t taken h =
+holds_taken : {S : Type 0} (does : CallRelation S) (options : DiffOptions) (number asked : ℕ) (update : Update)
+    (old new : Watching S) → GivesUpdate options old.mirror asked update new.mirror →
+    IsTakenFine does number options asked update old new → Holds number old → Holds number new
+holds_taken {S} does options number asked update old new t taken h =
     by_number number asked
-    (λ own. holds_own does kind number update old new
-    (subst (λ (n : ℕ). GivesUpdate kind old.mirror n update new.mirror) own t) (taken.own own) h)
+    (λ own. holds_own does options number update old new
+    (subst (λ (n : ℕ). GivesUpdate options old.mirror n update new.mirror) own t) (taken.own own) h)
     (λ other. holds_left number old new
     (λ screen e. sym (t.puts.other_notes number (λ same. other (sym same))) ∙ e) (taken.others other) h)
 
-holds_ask : {S : Type 0} (does : CallRelation S) (kind : Kind) (number asked : ℕ)
-    (answer : Result (Option Update) Error) (old new : Watching S) → Asks kind old.mirror asked answer new.mirror →
-    WatchesAny does number old (Ask kind asked answer) new → Holds number old → Holds number new
-holds_ask does kind number asked (Ok (Some update)) old new a f h =
-    holds_taken does kind number asked update old new a.answers f h
-holds_ask does kind number asked (Ok None) old new a f h =
+holds_ask : {S : Type 0} (does : CallRelation S) (options : DiffOptions) (number asked : ℕ)
+    (answer : Result (Option Update) Error) (old new : Watching S) → Asks options old.mirror asked answer new.mirror →
+    WatchesAny does number old (Ask options asked answer) new → Holds number old → Holds number new
+holds_ask does options number asked (Ok (Some update)) old new a f h =
+    holds_taken does options number asked update old new a.answers f h
+holds_ask does options number asked (Ok None) old new a f h =
     holds_left number old new (before_equal number old.mirror new.mirror a.answers.1) f h
-holds_ask does kind number asked (Err error) old new a f h =
+holds_ask does options number asked (Err error) old new a f h =
     holds_left number old new (before_equal number old.mirror new.mirror a.refused.1) f h
 
 holds_call : {S : Type 0} (does : CallRelation S) (number : ℕ) (call : MirrorCall) (old new : Watching S) →
@@ -188,7 +178,7 @@ holds_call does number (Join answer) old new d f h =
     holds_left number old new (before_join number old.mirror new.mirror answer d.1) f h
 holds_call does number (Leave viewer answer) old new d f h =
     holds_left number old new (before_none number viewer false old.mirror new.mirror d.1.puts) f h
-holds_call does number (Ask kind viewer answer) old new d f h = holds_ask does kind number viewer answer old new d f h
+holds_call does number (Ask options viewer answer) old new d f h = holds_ask does options number viewer answer old new d f h
 
 -- ---- all calls
 

@@ -10,15 +10,17 @@ use Rattle.std.specs.List.{list_any}
 use Rattle.std.specs.Map.{lookup}
 use Rattle.std.specs.Map.Calls.{RetainsPairs}
 use Rattle.std.specs.Ordering.{nat_cmp}
-use Rattle.std.specs.Prelude.{cond, map as list_map, string_bytes}
+use Rattle.std.specs.Prelude.{cond, map as list_map}
 use Rattle.vt_screen.specs.Screen.{ScreenValue}
-use Rattle.vt_mirror.specs.Kept.{AreKept, AreOfOneVersion, AreShared, Copies, DiffFrom, HasVersion, HaveNext}
-use Rattle.vt_mirror.specs.Kept.{IsCurrentNote, IsKept, IsRenewed}
-use Rattle.vt_mirror.specs.Kept.{diff_of, from_of, noted_at, screen_of, screens_of, without_versions}
+use Rattle.vt_screen.specs.declared.diff_options.DiffOptions.{DiffOptions}
+use Rattle.vt_mirror.specs.Kept.{AreKept, AreOfOneVersion, AreShared, Copies, HasVersion, HaveNext, HoldsDiff}
+use Rattle.vt_mirror.specs.Kept.{IsCurrentNote, IsKept, IsKeptAs, IsRedrawKeptAs, IsRenewed, KeptValue}
+use Rattle.vt_mirror.specs.Kept.{no_texts, noted_at, screen_of, screens_of, without_versions}
 use Rattle.vt_mirror.specs.Viewers.{AreViewers, Puts, ViewersValue, is_viewer, note_of}
 use Rattle.vt_mirror.specs.declared.copies.Note.{Note}
-use Rattle.vt_mirror.specs.declared.texts.DiffCache.{DiffCache}
 use Rattle.vt_mirror.specs.declared.texts.KeptDiff.{KeptDiff}
+use Rattle.vt_mirror.specs.declared.texts.KeptRedraw.{KeptRedraw}
+use Rattle.vt_mirror.specs.declared.texts.Texts.{Texts}
 use Rattle.vt_mirror.proofs.Bookkeeping.{at_other, by_number, put_viewers}
 
 -- ---- the recorded screens and their copies
@@ -129,18 +131,20 @@ shared_renewed screen old version after renewed (inr new) s =
       old_or_new note (inr (inl is)) = inr (same_some note new.0 (sym is ∙ new.1))
       old_or_new note (inr (inr diff)) = inl (inr (inr diff))
 
--- Copies stay valid when the screen changes, and its copy and the stored diffs are dropped.
-shared_changed : (old : Copies) (diff scrolling : Option Note) (version : ℕ) → diff ≡ None → scrolling ≡ None →
-    AreShared old version →
-    AreShared (record { notes = old.notes; current = None; diff = diff; scrolling = scrolling }) version
-shared_changed old diff scrolling version no_diff no_scrolling s =
-    fewer_kept old (record { notes = old.notes; current = None; diff = diff; scrolling = scrolling }) version was s where
-      was : (note : Note) → IsKept (record { notes = old.notes; current = None; diff = diff; scrolling = scrolling }) note
-          → IsKept old note
+-- No diff is stored among no texts.
+pub holds_none : (diff : KeptDiff) → HoldsDiff no_texts diff → ⊥
+holds_none diff (inl e) = none_some diff e
+holds_none diff (inr e) = none_some diff e
+
+-- Copies stay valid when the screen changes, and its copy and the stored texts are dropped.
+shared_changed : (old : Copies) (version : ℕ) → AreShared old version →
+    AreShared (record { notes = old.notes; current = None; texts = no_texts }) version
+shared_changed old version s =
+    fewer_kept old (record { notes = old.notes; current = None; texts = no_texts }) version was s where
+      was : (note : Note) → IsKept (record { notes = old.notes; current = None; texts = no_texts }) note → IsKept old note
       was note (inl noted) = inl noted
       was note (inr (inl never)) = absurd (none_some note never)
-      was note (inr (inr (inl is))) = absurd (none_some note (sym no_diff ∙ is))
-      was note (inr (inr (inr is))) = absurd (none_some note (sym no_scrolling ∙ is))
+      was note (inr (inr it)) = absurd (holds_none it.0 it.1)
 
 -- If a closure changes each value of a map and retains all entries, the result is the map with each value changed.
 module _ {F K X : Type 0} (T : F → K → X → Bool → X → F → Type 0) (turn : X → X) where
@@ -162,38 +166,34 @@ unversioned test (e ∷ es) note is = by_test (test e.0) (unversioned test es no
   by_test true later here = ap (λ (n : Note). n.version) (sym (same_some (record (e.1) { version = 0 }) note here))
   by_test false later there = later there
 
-shared_anew : (notes : List (ℕ × Note)) (diff scrolling : Option Note) → diff ≡ None → scrolling ≡ None →
-    AreShared (record { notes = without_versions notes; current = None; diff = diff; scrolling = scrolling }) 0
-shared_anew notes diff scrolling no_diff no_scrolling = record {
+shared_anew : (notes : List (ℕ × Note)) →
+    AreShared (record { notes = without_versions notes; current = None; texts = no_texts }) 0
+shared_anew notes = record {
   below = λ note is. omega (arith, none note is);
   agree = λ one other is is_too same. absurd (numberless one other (none one is) same);
 } where
-  none : (note : Note)
-      → IsKept (record { notes = without_versions notes; current = None; diff = diff; scrolling = scrolling }) note
-      → note.version ≡ 0
+  none : (note : Note) → IsKept (record { notes = without_versions notes; current = None; texts = no_texts }) note →
+      note.version ≡ 0
   none note (inl noted) = unversioned (is_at (nat_cmp noted.0)) notes note noted.1
   none note (inr (inl never)) = absurd (none_some note never)
-  none note (inr (inr (inl is))) = absurd (none_some note (sym no_diff ∙ is))
-  none note (inr (inr (inr is))) = absurd (none_some note (sym no_scrolling ∙ is))
+  none note (inr (inr it)) = absurd (holds_none it.0 it.1)
 
   numberless : (one other : Note) → one.version ≡ 0 → AreOfOneVersion one other → ⊥
   numberless one other zero same = omega (arith, zero, same.numbered)
 
-pub shared_next : (old : Copies) (diff scrolling : Option Note) (version after : ℕ) (renewed : List (ℕ × Note))
-    → HaveNext version old.notes after renewed → diff ≡ None → scrolling ≡ None → AreShared old version
-    → AreShared (record { notes = renewed; current = None; diff = diff; scrolling = scrolling }) after
-shared_next old diff scrolling version after renewed (inl same) no_diff no_scrolling s =
-    subst (λ (n : ℕ). AreShared (record { notes = renewed; current = None; diff = diff; scrolling = scrolling }) n)
+pub shared_next : (old : Copies) (version after : ℕ) (renewed : List (ℕ × Note))
+    → HaveNext version old.notes after renewed → AreShared old version
+    → AreShared (record { notes = renewed; current = None; texts = no_texts }) after
+shared_next old version after renewed (inl same) s =
+    subst (λ (n : ℕ). AreShared (record { notes = renewed; current = None; texts = no_texts }) n)
     (sym same.0)
-    (subst (λ (es : List (ℕ × Note)).
-    AreShared (record { notes = es; current = None; diff = diff; scrolling = scrolling }) version) (sym same.1)
-    (shared_changed old diff scrolling version no_diff no_scrolling s))
-shared_next old diff scrolling version after renewed (inr anew) no_diff no_scrolling s =
-    subst (λ (n : ℕ). AreShared (record { notes = renewed; current = None; diff = diff; scrolling = scrolling }) n)
+    (subst (λ (es : List (ℕ × Note)). AreShared (record { notes = es; current = None; texts = no_texts }) version)
+    (sym same.1) (shared_changed old version s))
+shared_next old version after renewed (inr anew) s =
+    subst (λ (n : ℕ). AreShared (record { notes = renewed; current = None; texts = no_texts }) n)
     (sym anew.0)
-    (subst (λ (es : List (ℕ × Note)).
-    AreShared (record { notes = es; current = None; diff = diff; scrolling = scrolling }) 0) (sym anew.1)
-    (shared_anew old.notes diff scrolling no_diff no_scrolling))
+    (subst (λ (es : List (ℕ × Note)). AreShared (record { notes = es; current = None; texts = no_texts }) 0)
+    (sym anew.1) (shared_anew old.notes))
 
 screens_without : (notes : List (ℕ × Note)) → screens_of (without_versions notes) ≡ screens_of notes
 screens_without [] = refl
@@ -232,23 +232,21 @@ shared_cleared old notes version empty s =
 
 -- Copies are valid if none is kept.
 shared_none : (notes : List (ℕ × Note)) → notes ≡ [] →
-    AreShared (record { notes = notes; current = None; diff = None; scrolling = None }) 0
+    AreShared (record { notes = notes; current = None; texts = no_texts }) 0
 shared_none notes empty = record {
   below = λ note is. absurd (never note is);
   agree = λ one other is is_too same. absurd (never one is);
 } where
-  never : (note : Note) → IsKept (record { notes = notes; current = None; diff = None; scrolling = None }) note → ⊥
+  never : (note : Note) → IsKept (record { notes = notes; current = None; texts = no_texts }) note → ⊥
   never note (inl noted) =
       none_some note (ap (λ (entries : List (ℕ × Note)). noted_at entries noted.0) (sym empty) ∙ noted.1)
   never note (inr (inl none)) = none_some note none
-  never note (inr (inr (inl none))) = none_some note none
-  never note (inr (inr (inr none))) = none_some note none
+  never note (inr (inr it)) = holds_none it.0 it.1
 
-pub fresh_kept : (numbers : List ℕ) (notes : List (ℕ × Note)) (diff scrolling : Option Note) →
-    numbers ≡ [] → notes ≡ [] → diff ≡ None → scrolling ≡ None →
+pub fresh_kept : (numbers : List ℕ) (notes : List (ℕ × Note)) → numbers ≡ [] → notes ≡ [] →
     AreKept (record { last = None; numbers = numbers; notes = screens_of notes })
-    (record { notes = notes; current = None; diff = diff; scrolling = scrolling }) 0
-fresh_kept numbers notes diff scrolling e f no_diff no_scrolling = record {
+    (record { notes = notes; current = None; texts = no_texts }) 0
+fresh_kept numbers notes e f = record {
   viewers = record {
     numbers =
         λ viewer is. absurd
@@ -257,39 +255,58 @@ fresh_kept numbers notes diff scrolling e f no_diff no_scrolling = record {
         λ viewer screen is. absurd (none_some screen
         (ap (λ (es : List (ℕ × Note)). lookup (is_at (nat_cmp viewer)) (screens_of es)) (sym f) ∙ is));
   };
-  shared =
-      subst (λ (o : Option Note). AreShared (record { notes = notes; current = None; diff = o; scrolling = scrolling }) 0)
-      (sym no_diff)
-      (subst (λ (o : Option Note). AreShared (record { notes = notes; current = None; diff = None; scrolling = o }) 0)
-      (sym no_scrolling) (shared_none notes f));
+  shared = shared_none notes f;
   numbered = omega arith;
 }
 
--- Copies stay valid if a diff from the screen recorded for a viewer is stored, or nothing changes.
-pub shared_diff : (old : Copies) (version viewer : ℕ) (note : Note) (from : Option Note)
-    → noted_at old.notes viewer ≡ Some note → (from ≡ old.diff) ⊎ (from ≡ Some note)
-    → AreShared old version → AreShared (record old { diff = from }) version
-shared_diff old version viewer note from noted kept s =
-    fewer_kept old (record old { diff = from }) version (λ n is. was n is kept) s where
-      was : (n : Note) → IsKept (record old { diff = from }) n → (from ≡ old.diff) ⊎ (from ≡ Some note) → IsKept old n
-      was n (inl it) kept = inl it
-      was n (inr (inl is)) kept = inr (inl is)
-      was n (inr (inr (inl is))) (inl same) = inr (inr (inl (sym same ∙ is)))
-      was n (inr (inr (inl is))) (inr new) = inl (viewer, noted ∙ (sym new ∙ is))
-      was n (inr (inr (inr is))) kept = inr (inr (inr is))
+-- The diffs that are stored after the text of a diff from the screen of a copy was stored, or could not be stored.
+abbrev pub KeepsDiff : (old : Texts) → Note → DiffOptions → List ℕ → (new : Texts) → Type 0
+KeepsDiff old note options text new =
+    (diff : KeptDiff) → HoldsDiff new diff → HoldsDiff old diff ⊎ ((diff.from ≡ note) × IsKeptAs options text diff)
 
-pub shared_scrolling : (old : Copies) (version viewer : ℕ) (note : Note) (from : Option Note)
-    → noted_at old.notes viewer ≡ Some note → (from ≡ old.scrolling) ⊎ (from ≡ Some note)
-    → AreShared old version → AreShared (record old { scrolling = from }) version
-shared_scrolling old version viewer note from noted kept s =
-    fewer_kept old (record old { scrolling = from }) version (λ n is. was n is kept) s where
-      was : (n : Note) → IsKept (record old { scrolling = from }) n → (from ≡ old.scrolling) ⊎ (from ≡ Some note) →
-          IsKept old n
-      was n (inl it) kept = inl it
-      was n (inr (inl is)) kept = inr (inl is)
-      was n (inr (inr (inl is))) kept = inr (inr (inl is))
-      was n (inr (inr (inr is))) (inl same) = inr (inr (inr (sym same ∙ is)))
-      was n (inr (inr (inr is))) (inr new) = inl (viewer, noted ∙ (sym new ∙ is))
+-- Copies stay valid if a diff from the screen recorded for a viewer is stored.
+pub shared_texts : (old : Copies) (version viewer : ℕ) (note : Note) (options : DiffOptions) (text : List ℕ) (texts : Texts)
+    → noted_at old.notes viewer ≡ Some note → KeepsDiff old.texts note options text texts
+    → AreShared old version → AreShared (record old { texts = texts }) version
+shared_texts old version viewer note options text texts noted kept s =
+    fewer_kept old (record old { texts = texts }) version was s where
+      by_side : (diff : KeptDiff) (n : Note) → diff.from ≡ n
+          → HoldsDiff old.texts diff ⊎ ((diff.from ≡ note) × IsKeptAs options text diff) → IsKept old n
+      by_side diff n is (inl held) = inr (inr (diff, held, is))
+      by_side diff n is (inr new) = inl (viewer, noted ∙ ap (λ (x : Note). Some x) (sym new.0 ∙ is))
+
+      was : (n : Note) → IsKept (record old { texts = texts }) n → IsKept old n
+      was n (inl it) = inl it
+      was n (inr (inl is)) = inr (inl is)
+      was n (inr (inr it)) = by_side it.0 n it.2 (kept it.0 it.1)
+
+-- The texts that are stored after a redraw was stored, or could not be stored.
+abbrev pub KeepsRedraw : (old : Texts) (portable : Bool) (text : List ℕ) (new : Texts) → Type 0
+KeepsRedraw old portable text new =
+    (new ≡ old) ⊎ ((kept : KeptRedraw) × (new ≡ record old { redraw = Some kept }) × IsRedrawKeptAs portable text kept)
+
+-- Copies stay valid if a redraw is stored.
+pub shared_redrawn : (old : Copies) (version : ℕ) (portable : Bool) (text : List ℕ) (texts : Texts) →
+    KeepsRedraw old.texts portable text texts → AreShared old version → AreShared (record old { texts = texts }) version
+shared_redrawn old version portable text texts (inl same) s =
+    subst (λ (t : Texts). AreShared (record old { texts = t }) version) (sym same) s
+shared_redrawn old version portable text texts (inr it) s =
+    subst (λ (t : Texts). AreShared (record old { texts = t }) version) (sym it.1)
+    (fewer_kept old (record old { texts = record (old.texts) { redraw = Some it.0 } }) version (λ note is. is) s)
+
+pub redraw_kept : (seen was : KeptValue) (new : Texts) (portable : Bool) (text : List ℕ)
+    → seen ≡ was → KeepsRedraw seen.texts portable text new
+    → (record seen { texts = new } ≡ was) ⊎ ((kept : KeptRedraw)
+    × (record seen { texts = new } ≡ record was { texts = record (was.texts) { redraw = Some kept } })
+    × IsRedrawKeptAs portable text kept)
+redraw_kept seen was new portable text e (inl same) = inl (ap (λ (t : Texts). record seen { texts = t }) same ∙ e)
+redraw_kept seen was new portable text e (inr it) =
+    inr (
+      it.0,
+      ap (λ (t : Texts). record seen { texts = t }) it.1
+          ∙ ap (λ (k : KeptValue). record k { texts = record (k.texts) { redraw = Some it.0 } }) e,
+      it.2,
+    )
 
 -- ---- changes as a mirror sees them
 
@@ -377,38 +394,25 @@ found_current viewers copies version current viewer note copy e f s noted is sam
   f ∙ ap screen_of is,
 )
 
--- If a viewer's copy has the version of a stored diff, it is a copy of the screen that the diff starts
--- from.
-pub found_diff : (viewers : ViewersValue) (copies : Copies) (version : ℕ) (last : Option KeptDiff)
-    (seen : Option DiffFrom) (viewer : ℕ) (note : Note) (diff : KeptDiff) (text : List ℕ)
-    → viewers.notes ≡ screens_of copies.notes → seen ≡ diff_of last → AreShared copies version
-    → Some note ≡ noted_at copies.notes viewer → last ≡ Some diff → IsKept copies diff.from
-    → AreOfOneVersion note diff.from → text ≡ string_bytes diff.text
-    → (screen : ScreenValue) × (note_of viewers viewer ≡ Some screen) × (seen ≡ Some (screen, text))
-found_diff viewers copies version last seen viewer note diff text e f s noted is kept same bytes = (
-  diff.from.screen,
-  found_same viewers copies version viewer note diff.from e s noted kept same,
-  f ∙ (ap diff_of is ∙ ap (λ (t : List ℕ). Some (diff.from.screen, t)) (sym bytes)),
-)
+-- If a viewer's copy has the version of a stored diff, it is a copy of the screen that the diff starts from.
+pub found_diff : (viewers : ViewersValue) (copies : Copies) (version viewer : ℕ) (note : Note) (diff : KeptDiff)
+    → viewers.notes ≡ screens_of copies.notes → AreShared copies version → Some note ≡ noted_at copies.notes viewer
+    → HoldsDiff copies.texts diff → AreOfOneVersion note diff.from → note_of viewers viewer ≡ Some diff.from.screen
+found_diff viewers copies version viewer note diff e s noted held same =
+    found_same viewers copies version viewer note diff.from e s noted (inr (inr (diff, held, refl))) same
 
--- After a diff is stored, the cache's copy is either the old one or the one that the diff starts from.
-pub from_kept : (old new : DiffCache) (note : Note) (text : List ℕ)
-    → (new ≡ old) ⊎ ((diff : KeptDiff) × (new.last ≡ Some diff) × (diff.from ≡ note) × (string_bytes diff.text ≡ text))
-    → (from_of new.last ≡ from_of old.last) ⊎ (from_of new.last ≡ Some note)
-from_kept old new note text (inl same) = inl (ap (λ (c : DiffCache). from_of c.last) same)
-from_kept old new note text (inr kept) = inr (ap from_of kept.1 ∙ ap (λ (n : Note). Some n) kept.2)
-
-pub diff_kept : (viewers : ViewersValue) (notes : List (ℕ × Note)) (viewer : ℕ) (old new : DiffCache)
-    (was is : Option DiffFrom) (note : Note) (text : List ℕ)
-    → viewers.notes ≡ screens_of notes → Some note ≡ noted_at notes viewer → was ≡ diff_of old.last → is ≡ diff_of new.last
-    → (new ≡ old) ⊎ ((diff : KeptDiff) × (new.last ≡ Some diff) × (diff.from ≡ note) × (string_bytes diff.text ≡ text))
-    → (is ≡ was) ⊎ ((screen : ScreenValue) × (note_of viewers viewer ≡ Some screen) × (is ≡ Some (screen, text)))
-diff_kept viewers notes viewer old new was is note text e noted f g (inl same) = inl (g ∙ (ap (λ (c : DiffCache). diff_of c.last) same ∙ sym f))
-diff_kept viewers notes viewer old new was is note text e noted f g (inr kept) =
-    inr (
-      note.screen,
-      sym (found_note viewers notes viewer (Some note) e noted),
-      g ∙ (ap diff_of kept.1
-          ∙ (ap (λ (n : Note). Some (n.screen, string_bytes kept.0.text)) kept.2
-          ∙ ap (λ (t : List ℕ). Some (note.screen, t)) kept.3)),
-    )
+-- A stored diff starts from the screen recorded for the viewer for whom it was stored, or was stored before.
+pub kept_noted : (viewers : ViewersValue) (notes : List (ℕ × Note)) (viewer : ℕ) (old new : Texts) (note : Note)
+    (options : DiffOptions) (text : List ℕ)
+    → viewers.notes ≡ screens_of notes → Some note ≡ noted_at notes viewer → KeepsDiff old note options text new
+    → (diff : KeptDiff) → HoldsDiff new diff
+    → HoldsDiff old diff ⊎ ((note_of viewers viewer ≡ Some diff.from.screen) × IsKeptAs options text diff)
+kept_noted viewers notes viewer old new note options text e noted kept diff held = by_side (kept diff held) where
+  by_side : HoldsDiff old diff ⊎ ((diff.from ≡ note) × IsKeptAs options text diff)
+      → HoldsDiff old diff ⊎ ((note_of viewers viewer ≡ Some diff.from.screen) × IsKeptAs options text diff)
+  by_side (inl before) = inl before
+  by_side (inr it) =
+      inr (
+        sym (found_note viewers notes viewer (Some note) e noted) ∙ ap (λ (n : Note). Some n.screen) (sym it.0),
+        it.1,
+      )

@@ -14,8 +14,8 @@ use Rattle.vt_mirror.specs.contracts.copies.DisplayCopy.TheInside as display
 use Rattle.vt_mirror.specs.contracts.copies.SharedCopy.{the_row as shared_row}
 use Rattle.vt_mirror.specs.contracts.copies.SharedCopy.TheInside as shared
 use Rattle.vt_mirror.specs.contracts.copies.Note as Note
-use Rattle.vt_mirror.specs.contracts.texts.DiffCache as DiffCache
 use Rattle.vt_mirror.specs.contracts.texts.KeptDiff as KeptDiff
+use Rattle.vt_mirror.specs.contracts.texts.Texts as Texts
 use Rattle.vt_mirror.specs.contracts.viewers.Viewers.{the_row as viewers_row}
 use Rattle.vt_mirror.specs.contracts.viewers.Viewers.TheInside as viewers
 use Rattle.vt_mirror.specs.contracts.mirror.Mirror.{the_row as mirror_row}
@@ -45,14 +45,15 @@ note_send =
 
 kept_send : IsSend (Struct (shape KeptDiff.the_type))
 kept_send =
-    let all : AllSend (fields KeptDiff.the_type) = (note_send, (search crossing depth 20, tt)) in
+    let all : AllSend (fields KeptDiff.the_type) = (note_send, (search crossing depth 20, (search crossing depth 20, tt))) in
     struct_send (shape KeptDiff.the_type) all
 
-cache_send : IsSend (Struct (shape DiffCache.the_type))
-cache_send =
+texts_send : IsSend (Struct (shape Texts.the_type))
+texts_send =
     let a = kept_send in
-    let all : AllSend (fields DiffCache.the_type) = (search crossing depth 20, tt) in
-    struct_send (shape DiffCache.the_type) all
+    let all : AllSend (fields Texts.the_type) =
+    (search crossing depth 20, (search crossing depth 20, (search crossing depth 20, tt))) in
+    struct_send (shape Texts.the_type) all
 
 viewers_send : IsSend viewers_row
 viewers_send =
@@ -65,7 +66,7 @@ viewers_send =
           search crossing depth 20,
           (
             search crossing depth 20,
-            (search crossing depth 20, (cache_send, (cache_send, (search crossing depth 20, tt)))),
+            (search crossing depth 20, (texts_send, tt)),
           ),
         ),
       ),

@@ -1,12 +1,15 @@
 -- The copies and stored texts of a mirror stay valid in each call.
-use Rattle.std.proofs.Common.{◌≡◌, ◌⊎◌, ℕ, List, [], Option, Some, None, inl, inr, refl, sym, ap, subst, arith}
-use Rattle.std.specs.Prelude.{IfSome}
+use Rattle.std.proofs.Common.{◌≡◌, ◌⊎◌, ℕ, Bool, true, false, List, [], Option, Some, None, inl, inr, refl, sym, ap, subst, arith}
+use Rattle.std.specs.Prelude.{IfSome, IsTrue, string_bytes}
 use Rattle.vt_grid.specs.Page.{SameSize}
 use Rattle.vt_redraw.specs.Steady.{IsSteady}
+use Rattle.vt_redraw.specs.declared.form.Form.TheVariants.{Portable}
 use Rattle.vt_screen.specs.Again.{KeepsPlain}
 use Rattle.vt_screen.specs.MadeOf.{IsMadeOf, drawing_controls, drawing_finals, shortened_controls, shortened_finals}
+use Rattle.vt_screen.specs.Portable.{IsPortableAnywhere}
 use Rattle.vt_screen.specs.Screen.{IsColored, IsScreen, ScreenValue}
-use Rattle.vt_screen.specs.Shown.{display, display_change}
+use Rattle.vt_screen.specs.Shown.{IsReader, KeepsRest, Redraws, display, display_change, form_of, shown_text_in}
+use Rattle.vt_screen.specs.declared.diff_options.DiffOptions.{DiffOptions}
 use Rattle.vt_screen.proofs.Became.{difference_redraws}
 use Rattle.vt_screen.proofs.EqualTexts.{difference_none}
 use Rattle.vt_screen.proofs.MadeOf.{difference_made, made_nothing}
@@ -14,11 +17,14 @@ use Rattle.vt_screen.proofs.PlainAgain.{difference_keeps}
 use Rattle.vt_screen.proofs.TouchedTexts.{difference_touches}
 use Rattle.vt_screen.proofs.Viewing.{same_shown}
 use Rattle.vt100.specs.Parser.{ParserValue}
-use Rattle.vt_mirror.specs.Calls.{IsDrawn, Scrolls}
-use Rattle.vt_mirror.specs.Kept.{DiffFrom, KeptValue}
+use Rattle.vt_mirror.specs.Calls.{IsDiffFor, IsDrawn, Scrolls}
+use Rattle.vt_mirror.specs.Kept.{HoldsDiff, IsKeptAs, IsRedrawKeptAs, KeptValue, no_texts}
 use Rattle.vt_mirror.specs.Mirror.{IsMirror}
-use Rattle.vt_mirror.specs.Sharing.{IsRedraw, IsSharing}
+use Rattle.vt_mirror.specs.Sharing.{AreTexts, IsRedraw, IsSharing}
 use Rattle.vt_mirror.specs.Viewers.{note_of}
+use Rattle.vt_mirror.specs.declared.texts.KeptDiff.{KeptDiff}
+use Rattle.vt_mirror.specs.declared.texts.KeptRedraw.{KeptRedraw}
+use Rattle.vt_mirror.proofs.Keeping.{holds_none}
 use Rattle.vt_mirror.proofs.Noted.{noted_none, noted_parser, own_size}
 
 -- ---- the diff of a screen from itself is empty
@@ -62,27 +68,61 @@ unchanged_scrolling self is colored steady =
 abbrev pub CopiesScreen : ParserValue (Unit {0}) → Option ScreenValue → Type 0
 CopiesScreen parser o = IfSome o (λ screen. screen ≡ parser.screen)
 
-abbrev HasDrawn : ParserValue (Unit {0}) → Option DiffFrom → Type 0
-HasDrawn parser o = IfSome o (λ diff. IsDrawn parser.screen diff.0 diff.1)
+abbrev HasRedraw : ScreenValue → Option KeptRedraw → Type 0
+HasRedraw self o = IfSome o (λ redraw. IsRedraw (form_of redraw.portable) self (string_bytes redraw.text))
 
-abbrev HasScrolling : ParserValue (Unit {0}) → Option DiffFrom → Type 0
-HasScrolling parser o = IfSome o (λ diff. Scrolls parser.screen diff.0 diff.1)
+-- The stored texts are valid if there are none.
+no_texts_are : (self : ScreenValue) → AreTexts self no_texts
+no_texts_are self = record { diffs = λ diff held. absurd (holds_none diff held); redraw = tt }
 
-abbrev HasRedraw : ParserValue (Unit {0}) → Option (List ℕ) → Type 0
-HasRedraw parser o = IfSome o (IsRedraw parser.screen)
+-- If the form is the portable one, portable output was requested.
+is_portable : (portable : Bool) → form_of portable ≡ Portable → IsTrue portable
+is_portable true e = refl
+is_portable false e = absurd cc
+
+-- The text of `Screen::contents_formatted_with` is a redraw.
+pub redraw_of : (portable : Bool) (self : ScreenValue) (text : List ℕ) → text ≡ shown_text_in (form_of portable) self
+    → Redraws (display self) (IsReader (display self)) KeepsRest text
+    → IsMadeOf drawing_finals drawing_controls text → KeepsPlain text → (IsTrue portable → IsPortableAnywhere self text)
+    → IsRedraw (form_of portable) self text
+redraw_of portable self text is redraws controls again asked = record {
+  is = is;
+  redraws = redraws;
+  controls = controls;
+  again = again;
+  portable = λ e. asked (is_portable portable e);
+}
 
 -- The copies and texts of a mirror stay valid after a redraw is stored, or if nothing changes.
-pub sharing_redrawn : (parser : ParserValue (Unit {0})) (old new : KeptValue) (text : List ℕ)
-    → (new ≡ old) ⊎ (new ≡ record old { redraw = Some text }) → IsRedraw parser.screen text
-    → IsSharing parser old → IsSharing parser new
-sharing_redrawn parser old new text (inl same) is s = subst (λ (k : KeptValue). IsSharing parser k) (sym same) s
-sharing_redrawn parser old new text (inr kept) is s =
-    subst (λ (k : KeptValue). IsSharing parser k) (sym kept)
-    (record { sized = s.sized; current = s.current; diff = s.diff; scrolling = s.scrolling; redraw = is })
+pub sharing_redrawn : (parser : ParserValue (Unit {0})) (old new : KeptValue) (portable : Bool) (text : List ℕ)
+    → (new ≡ old) ⊎ ((kept : KeptRedraw) × (new ≡ record old { texts = record (old.texts) { redraw = Some kept } })
+    × IsRedrawKeptAs portable text kept)
+    → IsRedraw (form_of portable) parser.screen text → IsSharing parser old → IsSharing parser new
+sharing_redrawn parser old new portable text (inl same) is s = subst (λ (k : KeptValue). IsSharing parser k) (sym same) s
+sharing_redrawn parser old new portable text (inr it) is s =
+    subst (λ (k : KeptValue). IsSharing parser k) (sym it.1) (record {
+      sized = s.sized;
+      current = s.current;
+      texts = record {
+        diffs = s.texts.diffs;
+        redraw =
+            subst (λ (b : Bool). IsRedraw (form_of b) parser.screen (string_bytes it.0.text)) (sym it.2.form_is)
+            (subst (IsRedraw (form_of portable) parser.screen) (sym it.2.text_is) is);
+      };
+    })
+
+-- A stored redraw in the requested form is the redraw of the screen in that form.
+pub shared_redraw : (parser : ParserValue (Unit {0})) (kept : KeptValue) (portable : Bool) (text : List ℕ)
+    (redraw : KeptRedraw) → kept.texts.redraw ≡ Some redraw → IsRedrawKeptAs portable text redraw → IsSharing parser kept →
+    IsRedraw (form_of portable) parser.screen text
+shared_redraw parser kept portable text redraw e kept_as s =
+    subst (λ (b : Bool). IsRedraw (form_of b) parser.screen text) kept_as.form_is
+    (subst (IsRedraw (form_of redraw.portable) parser.screen) kept_as.text_is
+    (subst (HasRedraw parser.screen) e s.texts.redraw))
 
 -- The copies and texts of a mirror stay valid after the screen changes but keeps its size.
 pub sharing_changed : (parser after : ParserValue (Unit {0})) (old new : KeptValue)
-    → new ≡ record old { current = None; diff = None; scrolling = None; redraw = None; current_viewers = [] }
+    → new ≡ record old { current = None; texts = no_texts; current_viewers = [] }
     → SameSize after.screen.page parser.screen.page → IsSharing parser old → IsSharing after new
 sharing_changed parser after old new e size s =
     subst (λ (k : KeptValue). IsSharing after k) (sym e) (record {
@@ -90,9 +130,7 @@ sharing_changed parser after old new e size s =
           noted_parser (record { parser = parser; viewers = old.viewers; current = old.current_viewers })
           (record { parser = after; viewers = old.viewers; current = [] }) refl size s.sized;
       current = tt;
-      diff = tt;
-      scrolling = tt;
-      redraw = tt;
+      texts = no_texts_are after.screen;
     })
 
 -- The copies and texts of a mirror stay valid after the screen and its size change.
@@ -100,9 +138,7 @@ pub sharing_resized : (after : ParserValue (Unit {0})) (old new : KeptValue)
     → new ≡ record {
       viewers = record (old.viewers) { notes = [] };
       current = None;
-      diff = None;
-      scrolling = None;
-      redraw = None;
+      texts = no_texts;
       current_viewers = [];
     }
     → IsSharing after new
@@ -110,9 +146,7 @@ sharing_resized after old new e =
     subst (λ (k : KeptValue). IsSharing after k) (sym e) (record {
       sized = noted_none (record { parser = after; viewers = record (old.viewers) { notes = [] }; current = [] }) refl;
       current = tt;
-      diff = tt;
-      scrolling = tt;
-      redraw = tt;
+      texts = no_texts_are after.screen;
     })
 
 -- The copies and texts of a mirror stay valid if the parser is unchanged.
@@ -127,57 +161,45 @@ pub sharing_viewers : (parser : ParserValue (Unit {0})) (old new : KeptValue)
 sharing_viewers parser old new e sized s = record {
   sized = sized;
   current = subst (CopiesScreen parser) (sym (ap (λ (k : KeptValue). k.current) e)) s.current;
-  diff = subst (HasDrawn parser) (sym (ap (λ (k : KeptValue). k.diff) e)) s.diff;
-  scrolling = subst (HasScrolling parser) (sym (ap (λ (k : KeptValue). k.scrolling) e)) s.scrolling;
-  redraw = subst (HasRedraw parser) (sym (ap (λ (k : KeptValue). k.redraw) e)) s.redraw;
+  texts = subst (AreTexts parser.screen) (sym (ap (λ (k : KeptValue). k.texts) e)) s.texts;
 }
 
 -- The copies and texts of a mirror stay valid after the current screen is recorded for a viewer.
 pub sharing_noted : (parser : ParserValue (Unit {0})) (old new : KeptValue)
     → IsMirror (record { parser = parser; viewers = new.viewers; current = new.current_viewers }) → CopiesScreen parser new.current
-    → new.diff ≡ old.diff → new.scrolling ≡ old.scrolling → new.redraw ≡ old.redraw
-    → IsSharing parser old → IsSharing parser new
-sharing_noted parser old new sized current e f g s = record {
-  sized = sized;
-  current = current;
-  diff = subst (HasDrawn parser) (sym e) s.diff;
-  scrolling = subst (HasScrolling parser) (sym f) s.scrolling;
-  redraw = subst (HasRedraw parser) (sym g) s.redraw;
-}
+    → new.texts ≡ old.texts → IsSharing parser old → IsSharing parser new
+sharing_noted parser old new sized current e s =
+    record { sized = sized; current = current; texts = subst (AreTexts parser.screen) (sym e) s.texts }
 
--- Either the stored diff `is` starts from the screen recorded for the viewer, or it is the one stored before.
-abbrev Kept : KeptValue → (viewer : ℕ) → (was is : Option DiffFrom) → List ℕ → Type 0
-Kept old viewer was is text =
-    (is ≡ was) ⊎ ((screen : ScreenValue) × (note_of old.viewers viewer ≡ Some screen) × (is ≡ Some (screen, text)))
-
-pub sharing_drawn : (parser : ParserValue (Unit {0})) (old new : KeptValue) (viewer : ℕ) (text : List ℕ)
-    → new ≡ record old { diff = new.diff } → Kept old viewer old.diff new.diff text
-    → ((screen : ScreenValue) → note_of old.viewers viewer ≡ Some screen → IsDrawn parser.screen screen text)
+-- The copies and texts of a mirror stay valid after a diff from the screen recorded for a viewer is stored.
+pub sharing_kept : (parser : ParserValue (Unit {0})) (old new : KeptValue) (viewer : ℕ) (options : DiffOptions)
+    (text : List ℕ) → new ≡ record old { texts = new.texts } → new.texts.redraw ≡ old.texts.redraw
+    → ((diff : KeptDiff) → HoldsDiff new.texts diff → HoldsDiff old.texts diff
+    ⊎ ((note_of old.viewers viewer ≡ Some diff.from.screen) × IsKeptAs options text diff))
+    → ((screen : ScreenValue) → note_of old.viewers viewer ≡ Some screen → IsDiffFor options parser.screen screen text)
     → IsSharing parser old → IsSharing parser new
-sharing_drawn parser old new viewer text e kept drawn s =
+sharing_kept parser old new viewer options text e f kept is s =
     subst (λ (k : KeptValue). IsSharing parser k) (sym e) (record {
       sized = s.sized;
       current = s.current;
-      diff = by_side kept;
-      scrolling = s.scrolling;
-      redraw = s.redraw;
+      texts = record {
+        diffs = λ diff held. by_side diff (kept diff held);
+        redraw = subst (HasRedraw parser.screen) (sym f) s.texts.redraw;
+      };
     }) where
-      by_side : Kept old viewer old.diff new.diff text → HasDrawn parser new.diff
-      by_side (inl same) = subst (HasDrawn parser) (sym same) s.diff
-      by_side (inr it) = subst (HasDrawn parser) (sym it.2) (drawn it.0 it.1)
+      by_side : (diff : KeptDiff)
+          → HoldsDiff old.texts diff ⊎ ((note_of old.viewers viewer ≡ Some diff.from.screen) × IsKeptAs options text diff)
+          → IsDiffFor diff.options parser.screen diff.from.screen (string_bytes diff.text)
+      by_side diff (inl held) = s.texts.diffs diff held
+      by_side diff (inr it) =
+          subst (λ (o : DiffOptions). IsDiffFor o parser.screen diff.from.screen (string_bytes diff.text))
+          (sym it.1.options_are)
+          (subst (IsDiffFor options parser.screen diff.from.screen) (sym it.1.text_is) (is diff.from.screen it.0))
 
-pub sharing_scrolled : (parser : ParserValue (Unit {0})) (old new : KeptValue) (viewer : ℕ) (text : List ℕ)
-    → new ≡ record old { scrolling = new.scrolling } → Kept old viewer old.scrolling new.scrolling text
-    → ((screen : ScreenValue) → note_of old.viewers viewer ≡ Some screen → Scrolls parser.screen screen text)
-    → IsSharing parser old → IsSharing parser new
-sharing_scrolled parser old new viewer text e kept scrolled s =
-    subst (λ (k : KeptValue). IsSharing parser k) (sym e) (record {
-      sized = s.sized;
-      current = s.current;
-      diff = s.diff;
-      scrolling = by_side kept;
-      redraw = s.redraw;
-    }) where
-      by_side : Kept old viewer old.scrolling new.scrolling text → HasScrolling parser new.scrolling
-      by_side (inl same) = subst (HasScrolling parser) (sym same) s.scrolling
-      by_side (inr it) = subst (HasScrolling parser) (sym it.2) (scrolled it.0 it.1)
+-- A stored diff with the requested options is a diff with these options.
+pub shared_diff : (parser : ParserValue (Unit {0})) (kept : KeptValue) (options : DiffOptions) (text : List ℕ)
+    (diff : KeptDiff) → HoldsDiff kept.texts diff → IsKeptAs options text diff → IsSharing parser kept →
+    IsDiffFor options parser.screen diff.from.screen text
+shared_diff parser kept options text diff held kept_as s =
+    subst (λ (o : DiffOptions). IsDiffFor o parser.screen diff.from.screen text) kept_as.options_are
+    (subst (IsDiffFor diff.options parser.screen diff.from.screen) kept_as.text_is (s.texts.diffs diff held))

@@ -23,7 +23,7 @@ use Rattle.vt100.specs.Parser.{ParserValue, Ran, does_nothing}
 use Rattle.vt100.proofs.Running.{ran_then}
 use Rattle.vt100.proofs.Sizes.{quiet_leaves}
 use Rattle.vt100.proofs.Streams.{ran_called}
-use Rattle.vt_mirror.specs.Calls.{Drawn, IsUpdate, MirrorProcesses, GivesUpdate}
+use Rattle.vt_mirror.specs.Calls.{GivesUpdate, IsUpdate, MirrorProcesses, default_options}
 use Rattle.vt_mirror.specs.Internals.{InStretch, IsBegun, IsWritten, ReadsAtMost, ReadsBytes, ReadsFewer, ReadsStretch}
 use Rattle.vt_mirror.specs.Internals.{WritesUpdate, WritesUpdatePart, text_of_update}
 use Rattle.vt_mirror.specs.Mirror.{MirrorValue}
@@ -145,24 +145,24 @@ same_some : {A : Type 0} (x y : A) → Some x ≡ Some y → x ≡ y
 same_some x y e = cc
 
 full_text : (self : ScreenValue) (noted : Option ScreenValue) (update : Update) → noted ≡ None →
-    IsUpdate Drawn self noted update → text_of_update update ≡ bytes_of_all (redraw (display self))
+    IsUpdate default_options self noted update → text_of_update update ≡ bytes_of_all (redraw (display self))
 full_text self None (Full rows cols text) e is = is.is
 full_text self None (Diff text) e is = absurd is
 full_text self (Some prev) update e is = absurd (no_some prev e)
 
 diff_text : (self prev : ScreenValue) (noted : Option ScreenValue) (update : Update) → noted ≡ Some prev →
-    IsUpdate Drawn self noted update → text_of_update update ≡ bytes_of_all (difference (display self) (display prev))
+    IsUpdate default_options self noted update → text_of_update update ≡ bytes_of_all (difference (display self) (display prev))
 diff_text self prev (Some other) (Diff text) e is =
     is.is ∙ ap (λ (s : ScreenValue). bytes_of_all (difference (display self) (display s))) (same_some other prev e)
-diff_text self prev (Some other) (Full rows cols text) e is = absurd is
+diff_text self prev (Some other) (Full rows cols text) e is = absurd (false≢true is.scrolls)
 diff_text self prev None update e is = absurd (no_some prev (sym e))
 
-update_made : (self : ScreenValue) (noted : Option ScreenValue) (update : Update) → IsUpdate Drawn self noted update →
+update_made : (self : ScreenValue) (noted : Option ScreenValue) (update : Update) → IsUpdate default_options self noted update →
     IsMadeOf drawing_finals drawing_controls (text_of_update update)
 update_made self None (Full rows cols text) is = is.controls
 update_made self None (Diff text) is = absurd is
 update_made self (Some prev) (Diff text) is = is.controls
-update_made self (Some prev) (Full rows cols text) is = absurd is
+update_made self (Some prev) (Full rows cols text) is = absurd (false≢true is.scrolls)
 
 ran_shows : (p q : ParserValue (Unit {0})) (bytes : List ℕ) → StandsFor p.scanner start → Ran does_nothing p bytes q →
     q.screen ≡ screen_in start p.screen bytes
@@ -352,7 +352,7 @@ still_views every viewer is_whole old mid read left at rest written grown w s =
 -- If an update was returned and its text was written, the viewer's update is written.
 pub update_written : (old : MirrorValue) (viewer : ℕ) (new : MirrorValue) (update : Update) (text : List ℕ)
     (written grown : Option (List ℕ)) (answer : Result (Unit {0}) Fault)
-    → GivesUpdate Drawn old viewer update new → text ≡ text_of_update update → OnOk answer (Appends written grown text)
+    → GivesUpdate default_options old viewer update new → text ≡ text_of_update update → OnOk answer (Appends written grown text)
     → OnOk answer (WritesUpdate old viewer new written grown)
 update_written old viewer new update text written grown (Ok u) gives is appends =
     record { update = update; gives = gives; appends = subst (Appends written grown) is appends }
@@ -384,7 +384,7 @@ next_written every viewer false old mid read new left at rest written grown more
 -- If an update was returned and a prefix of its text was written, the viewer's update is written in part.
 pub update_part : (old : MirrorValue) (viewer : ℕ) (new : MirrorValue) (update : Update) (text : List ℕ)
     (written grown : Option (List ℕ)) (answer : Result (Unit {0}) Fault)
-    → GivesUpdate Drawn old viewer update new → text ≡ text_of_update update
+    → GivesUpdate default_options old viewer update new → text ≡ text_of_update update
     → OnErr answer (AppendsPart written grown text)
     → answer ≡ Err Write → WritesUpdatePart old viewer new written grown
 update_part old viewer new update text written grown (Ok u) gives is part e = cc

@@ -6,23 +6,20 @@ use Rattle.std.specs.List.{FoldsTo}
 use Rattle.vt_cells.specs.declared.error.Error.{Error}
 use Rattle.vt_redraw.specs.Picture.{SamePictureSize}
 use Rattle.vt_redraw.specs.Steady.{IsSteady}
+use Rattle.vt_redraw.specs.declared.form.Form.{Form}
 use Rattle.vt_scan.specs.Automaton.{start}
 use Rattle.vt_scan.specs.Scanner.{StandsFor}
-use Rattle.vt_grid.specs.Page.{SameSize}
-use Rattle.vt_screen.specs.Diffs.{MayRepeat}
+use Rattle.vt_screen.specs.Diffs.{form_with}
 use Rattle.vt_screen.specs.Pages.{has_size, screen_after_resize}
 use Rattle.vt_screen.specs.Reading.{terminal_after, terminal}
 use Rattle.vt_screen.specs.Screen.{IsScreen, ScreenValue}
 use Rattle.vt_screen.specs.Shown.{IsPlain, IsReader, IsReaderOf, KeepsRest, Redraws, display}
-use Rattle.vt_screen.specs.declared.repeat.Repeat.{Repeat}
+use Rattle.vt_screen.specs.declared.diff_options.DiffOptions.{DiffOptions}
 use Rattle.vt_screen.proofs.Viewing.{same_shown}
 use Rattle.vt100.specs.Parser.{ParserValue}
 use Rattle.vt100.specs.Pieces.{HasRead, IsPlainParser}
 use Rattle.vt100.proofs.Pieces.{read_pieces}
-use Rattle.vt_mirror.specs.Calls.{Asks, Drawn, IsDiff, IsFull, IsFullAfter, IsOfKind, IsUpdate, JoinsMirror, Kind}
-use Rattle.vt_mirror.specs.Calls.{Repeating}
-use Rattle.vt_screen.proofs.RepeatedDiffs.{of_may_repeat, repeated_redraws}
-use Rattle.vt_mirror.specs.Calls.{Scrolling, Resizes, GivesUpdate}
+use Rattle.vt_mirror.specs.Calls.{Asks, GivesUpdate, IsFull, IsUpdate, JoinsMirror, Resizes}
 use Rattle.vt_mirror.specs.Mirror.{MirrorValue}
 use Rattle.vt_mirror.specs.Viewers.{Puts, ViewersValue, next_number, note_of}
 use Rattle.vt_mirror.specs.Watching.{Ask, CountUp, Goes, IsFresh, IsLeft, IsNew, IsTakenBy, MirrorDoes, Watches}
@@ -31,6 +28,7 @@ use Rattle.vt_mirror.specs.Watching.{TakesUpdate, TakesSize, Watching, numbers_g
 use Rattle.vt_mirror.specs.declared.update.Update.{Update}
 use Rattle.vt_mirror.specs.declared.update.Update.TheVariants.{Diff, Full}
 use Rattle.vt_mirror.proofs.Bookkeeping.{by_number, none_some}
+use Rattle.vt_mirror.proofs.Options.{IsSent, sent_for}
 use Rattle.vt_screen.proofs.Sizing.{resized_is, resized_plain, resized_size}
 
 -- ---- the screen recorded for a number whose viewer gets no update: the same as before, or none
@@ -94,15 +92,10 @@ reads_redraw self Reader text p q steady r plain reader t =
       shows = ap display all.screen ∙ made.1;
     }
 
--- The text redraws the newer screen on a terminal that displays the older one, which has the same size.
-record IsShownBy (self prev : ScreenValue) (text : List ℕ) : Type 0 where
-  size : SameSize self.page prev.page
-  redraws : Redraws (display self) (IsReaderOf (display self) (display prev)) KeepsRest text
-
-reads_diff : {S : Type 0} (self prev : ScreenValue) (text : List ℕ) (p q : ParserValue S)
-    → IsShownBy self prev text → IsSteady (display self)
+reads_diff : {S : Type 0} (scroll : Bool) (self prev : ScreenValue) (text : List ℕ) (p q : ParserValue S)
+    → IsSent scroll self prev text → IsSteady (display self)
     → IsScreen p.screen → IsPlainParser p → display p.screen ≡ display prev → ReadsText text p q → Plainly self q
-reads_diff self prev text p q diff steady sound plain shows t =
+reads_diff scroll self prev text p q diff steady sound plain shows t =
     reads_redraw self (IsReaderOf (display self) (display prev)) text p q steady diff.redraws plain (record {
       is = record {
         sound = sound;
@@ -119,9 +112,9 @@ pub record Sized {S : Type 0} (rows cols : ℕ) (q : ParserValue S) : Type 0 whe
   pub wide : q.screen.page.width ≡ cols
   pub tall : length q.screen.page.rows ≡ rows
 
-pub takes_size : {S : Type 0} (self : ScreenValue) (rows cols : ℕ) (text : List ℕ) (p q : ParserValue S) →
-    IsFull self rows cols text → TakesSize rows cols p q → IsScreen p.screen → IsPlainParser p → Sized rows cols q
-takes_size {S} self rows cols text p q full t sound plain =
+pub takes_size : {S : Type 0} (form : Form) (self : ScreenValue) (rows cols : ℕ) (text : List ℕ) (p q : ParserValue S) →
+    IsFull form self rows cols text → TakesSize rows cols p q → IsScreen p.screen → IsPlainParser p → Sized rows cols q
+takes_size {S} form self rows cols text p q full t sound plain =
     let size = resized_size rows cols p.screen in
     let same : q.screen ≡ screen_after_resize rows cols p.screen = ap (λ (r : ParserValue S). r.screen) t in
     record {
@@ -137,11 +130,11 @@ takes_size {S} self rows cols text p q full t sound plain =
       tall = ap (λ (s : ScreenValue). length s.page.rows) same ∙ size.1;
     }
 
-reads_full : {S : Type 0} (self : ScreenValue) (rows cols : ℕ) (text : List ℕ) (p sized q : ParserValue S)
-    → IsFull self rows cols text → IsSteady (display self)
+reads_full : {S : Type 0} (form : Form) (self : ScreenValue) (rows cols : ℕ) (text : List ℕ) (p sized q : ParserValue S)
+    → IsFull form self rows cols text → IsSteady (display self)
     → IsScreen p.screen → IsPlainParser p → TakesSize rows cols p sized → ReadsText text sized q → Plainly self q
-reads_full self rows cols text p sized q full steady sound plain takes t =
-    let s = takes_size self rows cols text p sized full takes sound plain in
+reads_full form self rows cols text p sized q full steady sound plain takes t =
+    let s = takes_size form self rows cols text p sized full takes sound plain in
     reads_redraw self (IsReader (display self)) text sized q steady full.redraws s.plain
     (record {
       sound = s.sound;
@@ -155,43 +148,21 @@ sound_after : {S : Type 0} (update : Update) (p q : ParserValue S) → TakesUpda
 sound_after (Diff text) p q t = t.sound
 sound_after (Full rows cols text) p q t = t.2.sound
 
-of_diff : (self prev : ScreenValue) (text : List ℕ) → IsDiff self prev text → IsShownBy self prev text
-of_diff self prev text diff = record { size = diff.size; redraws = diff.redraws }
-
-of_repeats : (repeat : Repeat) (self prev : ScreenValue) (plain text : List ℕ) → IsDiff self prev plain →
-    MayRepeat repeat prev plain text → IsShownBy self prev text
-of_repeats repeat self prev plain text diff may =
-    let same = (of_may_repeat repeat prev plain text may).same in
-    record { size = diff.size; redraws = repeated_redraws prev self plain text same diff.redraws }
-
-of_kind : (kind : Kind) (self prev : ScreenValue) (text : List ℕ) → IsOfKind kind self prev text → IsShownBy self prev text
-of_kind Drawn self prev text is = of_diff self prev text is.diff
-of_kind Scrolling self prev text is = of_diff self prev text is.diff
-of_kind (Repeating true repeat) self prev text is = of_repeats repeat self prev is.plain text is.is.diff is.repeats
-of_kind (Repeating false repeat) self prev text is = of_repeats repeat self prev is.plain text is.is.diff is.repeats
-
-full_after : (kind : Kind) (self prev : ScreenValue) (rows cols : ℕ) (text : List ℕ) →
-    IsFullAfter kind self prev rows cols text → IsFull self rows cols text
-full_after Drawn self prev rows cols text is = absurd is
-full_after Scrolling self prev rows cols text is = is.1
-full_after (Repeating true repeat) self prev rows cols text is = is.1
-full_after (Repeating false repeat) self prev rows cols text is = absurd is
-
 -- A viewer that displays the recorded screen, if there is one, displays the new screen after it reads an update.
-takes_update : {S : Type 0} (kind : Kind) (self : ScreenValue) (noted : Option ScreenValue)
+takes_update : {S : Type 0} (options : DiffOptions) (self : ScreenValue) (noted : Option ScreenValue)
     (update : Update) (p q : ParserValue S)
     → ((prev : ScreenValue) → noted ≡ Some prev → display p.screen ≡ display prev)
-    → IsUpdate kind self noted update → IsSteady (display self) → IsScreen p.screen
+    → IsUpdate options self noted update → IsSteady (display self) → IsScreen p.screen
     → IsPlainParser p → TakesUpdate update p q → Plainly self q
-takes_update kind self (Some prev) (Diff text) p q shows is steady sound plain t =
-    reads_diff self prev (string_bytes text) p q (of_kind kind self prev (string_bytes text) is) steady sound plain
+takes_update options self (Some prev) (Diff text) p q shows is steady sound plain t =
+    reads_diff options.scroll self prev (string_bytes text) p q (sent_for options self prev (string_bytes text) is) steady
+    sound plain
     (shows prev refl) t
-takes_update kind self None (Full rows cols text) p q shows is steady sound plain t =
-    reads_full self rows cols (string_bytes text) p t.0 q is steady sound plain t.1 t.2
-takes_update kind self (Some prev) (Full rows cols text) p q shows is steady sound plain t =
-    reads_full self rows cols (string_bytes text) p t.0 q (full_after kind self prev rows cols (string_bytes text) is)
-    steady sound plain t.1 t.2
-takes_update kind self None (Diff text) p q shows is steady sound plain t = absurd is
+takes_update options self None (Full rows cols text) p q shows is steady sound plain t =
+    reads_full (form_with options) self rows cols (string_bytes text) p t.0 q is steady sound plain t.1 t.2
+takes_update options self (Some prev) (Full rows cols text) p q shows is steady sound plain t =
+    reads_full (form_with options) self rows cols (string_bytes text) p t.0 q is.full steady sound plain t.1 t.2
+takes_update options self None (Diff text) p q shows is steady sound plain t = absurd is
 
 -- ---- one call
 
@@ -213,15 +184,15 @@ holds_left {S} number old new before l h = record {
       (sym l.seen) h.shows);
 }
 
-holds_own : {S : Type 0} (kind : Kind) (number : ℕ) (update : Update) (old new : Watching S) →
-    GivesUpdate kind old.mirror number update new.mirror → Sees update old new → Holds number old → Holds number new
-holds_own {S} kind number update old new t s h =
+holds_own : {S : Type 0} (options : DiffOptions) (number : ℕ) (update : Update) (old new : Watching S) →
+    GivesUpdate options old.mirror number update new.mirror → Sees update old new → Holds number old → Holds number new
+holds_own {S} options number update old new t s h =
     let self = old.mirror.parser.screen in
     let shows_prev : (prev : ScreenValue) →
     note_of old.mirror.viewers number ≡ Some prev → display old.viewer.screen ≡ display prev
     = λ prev e. subst (λ (o : Option ScreenValue). IfSome o (λ screen. display old.viewer.screen ≡ display screen))
     (h.noted prev e) h.shows in
-    let p = takes_update kind self (note_of old.mirror.viewers number) update
+    let p = takes_update options self (note_of old.mirror.viewers number) update
     old.viewer new.viewer shows_prev t.text s.steady h.sound h.plain s.takes in
     record {
       sound = sound_after update old.viewer new.viewer s.takes;
@@ -232,23 +203,23 @@ holds_own {S} kind number update old new t s h =
           (sym s.seen) p.shows;
     }
 
-holds_taken : {S : Type 0} (kind : Kind) (number asked : ℕ) (update : Update) (old new : Watching S) →
-    GivesUpdate kind old.mirror asked update new.mirror →
+holds_taken : {S : Type 0} (options : DiffOptions) (number asked : ℕ) (update : Update) (old new : Watching S) →
+    GivesUpdate options old.mirror asked update new.mirror →
     IsTakenBy number asked update old new → Holds number old → Holds number new
-holds_taken {S} kind number asked update old new t taken h =
+holds_taken {S} options number asked update old new t taken h =
     by_number number asked
-    (λ own. holds_own kind number update old new
-    (subst (λ (n : ℕ). GivesUpdate kind old.mirror n update new.mirror) own t) (taken.own own) h)
+    (λ own. holds_own options number update old new
+    (subst (λ (n : ℕ). GivesUpdate options old.mirror n update new.mirror) own t) (taken.own own) h)
     (λ other. holds_left number old new
     (λ screen e. sym (t.puts.other_notes number (λ same. other (sym same))) ∙ e) (taken.others other) h)
 
-holds_ask : {S : Type 0} (kind : Kind) (number asked : ℕ) (answer : Result (Option Update) Error) (old new : Watching S) →
-    Asks kind old.mirror asked answer new.mirror →
-    Watches number old (Ask kind asked answer) new → Holds number old → Holds number new
-holds_ask kind number asked (Ok (Some update)) old new a f h = holds_taken kind number asked update old new a.answers f h
-holds_ask kind number asked (Ok None) old new a f h =
+holds_ask : {S : Type 0} (options : DiffOptions) (number asked : ℕ) (answer : Result (Option Update) Error) (old new : Watching S) →
+    Asks options old.mirror asked answer new.mirror →
+    Watches number old (Ask options asked answer) new → Holds number old → Holds number new
+holds_ask options number asked (Ok (Some update)) old new a f h = holds_taken options number asked update old new a.answers f h
+holds_ask options number asked (Ok None) old new a f h =
     holds_left number old new (before_equal number old.mirror new.mirror a.answers.1) f h
-holds_ask kind number asked (Err error) old new a f h =
+holds_ask options number asked (Err error) old new a f h =
     holds_left number old new (before_equal number old.mirror new.mirror a.refused.1) f h
 
 holds_call : {S : Type 0} (number : ℕ) (call : MirrorCall) (old new : Watching S) →
@@ -261,7 +232,7 @@ holds_call number (Join answer) old new d f h =
     holds_left number old new (before_join number old.mirror new.mirror answer d.1) f h
 holds_call number (Leave viewer answer) old new d f h =
     holds_left number old new (before_none number viewer false old.mirror new.mirror d.1.puts) f h
-holds_call number (Ask kind viewer answer) old new d f h = holds_ask kind number viewer answer old new d f h
+holds_call number (Ask options viewer answer) old new d f h = holds_ask options number viewer answer old new d f h
 
 -- ---- all calls
 
@@ -308,11 +279,11 @@ last_resize old new rows cols answer r = by_test (has_size rows cols old.parser.
   by_test false e (Ok u) r = ap (λ (m : MirrorValue). m.viewers.last) (r.other e)
   by_test false e (Err error) r = ap (λ (m : MirrorValue). m.viewers.last) r.refused.1
 
-last_ask : (kind : Kind) (old new : MirrorValue) (viewer : ℕ) (answer : Result (Option Update) Error) →
-    Asks kind old viewer answer new → new.viewers.last ≡ old.viewers.last
-last_ask kind old new viewer (Ok (Some update)) a = a.answers.last
-last_ask kind old new viewer (Ok None) a = ap (λ (m : MirrorValue). m.viewers.last) a.answers.1
-last_ask kind old new viewer (Err error) a = ap (λ (m : MirrorValue). m.viewers.last) a.refused.1
+last_ask : (options : DiffOptions) (old new : MirrorValue) (viewer : ℕ) (answer : Result (Option Update) Error) →
+    Asks options old viewer answer new → new.viewers.last ≡ old.viewers.last
+last_ask options old new viewer (Ok (Some update)) a = a.answers.last
+last_ask options old new viewer (Ok None) a = ap (λ (m : MirrorValue). m.viewers.last) a.answers.1
+last_ask options old new viewer (Err error) a = ap (λ (m : MirrorValue). m.viewers.last) a.refused.1
 
 pub numbers_count : (old new : MirrorValue) (calls : List MirrorCall) →
     FoldsTo MirrorDoes old calls new → CountUp (next_number old.viewers.last) (numbers_given calls)
@@ -335,6 +306,6 @@ numbers_count old new (Join (Err error) ∷ calls) f =
 numbers_count old new (Leave viewer answer ∷ calls) f =
     last_stays old f.0 (next_number old.viewers.last)
     (numbers_given calls) f.1.1.last refl (numbers_count f.0 new calls f.2)
-numbers_count old new (Ask kind viewer answer ∷ calls) f =
+numbers_count old new (Ask options viewer answer ∷ calls) f =
     last_stays old f.0 (next_number old.viewers.last) (numbers_given calls)
-    (last_ask kind old f.0 viewer answer f.1) refl (numbers_count f.0 new calls f.2)
+    (last_ask options old f.0 viewer answer f.1) refl (numbers_count f.0 new calls f.2)

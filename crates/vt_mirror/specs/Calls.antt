@@ -1,20 +1,25 @@
 -- The effects of calls to a mirror: the result of each call, and the mirror after it.
 use Rattle.std.specs.Prelude.{◌≡◌, ◌⊎◌, ℕ, ◌-◌, ◌^◌, ◌<◌, ◌≤◌, Bool, true, false, List, [], Option, Some, None, Err, Ok}
-use Rattle.std.specs.Prelude.{length, string_bytes, IfErr, IfOk}
+use Rattle.std.specs.Prelude.{length, string_bytes, IfErr, IfOk, IsTrue}
 use Rattle.std.specs.declared.result.Result.{Result}
 use Rattle.vt_cells.specs.Op.{bytes_of_all}
 use Rattle.vt_cells.specs.declared.error.Error.{Error}
 use Rattle.vt_cells.specs.declared.error.Error.TheVariants.{NoNumber, OutOfMemory}
 use Rattle.vt_grid.specs.Page.{SameSize}
-use Rattle.vt_redraw.specs.Redraw.{difference, redraw}
+use Rattle.vt_redraw.specs.Redraw.{difference}
 use Rattle.vt_redraw.specs.Steady.{IsSteady}
+use Rattle.vt_redraw.specs.declared.form.Form.{Form}
+use Rattle.vt_redraw.specs.declared.form.Form.TheVariants.{Portable}
 use Rattle.vt_screen.specs.Again.{KeepsPlain}
-use Rattle.vt_screen.specs.Diffs.{MayRepeat, diff_controls, finals_with}
+use Rattle.vt_screen.specs.Diffs.{IsDiffWith, KeepsScreensPlain, RepeatsOnlyInRows}
+use Rattle.vt_screen.specs.Diffs.{diff_controls, finals_with, form_with}
 use Rattle.vt_screen.specs.MadeOf.{IsMadeOf, drawing_controls, drawing_finals, shortened_controls, shortened_finals}
 use Rattle.vt_screen.specs.Pages.{has_size, screen_after_resize}
+use Rattle.vt_screen.specs.Portable.{IsPortableAnywhere, IsPortableFrom}
 use Rattle.vt_screen.specs.Screen.{IsColored, IsScreen, ScreenValue}
 use Rattle.vt_screen.specs.ShortMoves.{IsMovingOrRedraw}
-use Rattle.vt_screen.specs.Shown.{IsReader, IsReaderOf, IsSameIfEmpty, KeepsRest, Redraws, display, shown_text}
+use Rattle.vt_screen.specs.Shown.{IsReader, IsReaderOf, IsSameIfEmpty, KeepsRest, Redraws, RedrawsFrom}
+use Rattle.vt_screen.specs.Shown.{display, display_change_in, shown_text, shown_text_in}
 use Rattle.vt_screen.specs.Touched.{TouchesNear}
 use Rattle.vt_screen.specs.declared.diff_options.DiffOptions.{DiffOptions}
 use Rattle.vt_screen.specs.declared.repeat.Repeat.{Repeat}
@@ -70,18 +75,20 @@ pub record Leaves (old : ViewersValue) (viewer : ℕ) (answer : Bool) (new : Vie
   pub last : new.last ≡ old.last
   pub puts : Puts old viewer false None new
 
--- The text is the redraw of the screen, which has `rows` rows and `cols` columns, at least one of each.
-pub record IsFull (self : ScreenValue) (rows cols : ℕ) (text : List ℕ) : Type 0 where
+-- The text is the redraw, in the given form, of the screen, which has `rows` rows and `cols` columns, at least one of
+-- each.
+pub record IsFull (form : Form) (self : ScreenValue) (rows cols : ℕ) (text : List ℕ) : Type 0 where
   pub tall : rows ≡ length self.page.rows
   pub wide : cols ≡ self.page.width
   pub has_rows : 0 < rows
   pub few_rows : rows < 2 ^ 16
   pub has_columns : 0 < cols
   pub few_columns : cols < 2 ^ 16
-  pub is : text ≡ bytes_of_all (redraw (display self))
+  pub is : text ≡ shown_text_in form self
   pub redraws : Redraws (display self) (IsReader (display self)) KeepsRest text
   pub controls : IsMadeOf drawing_finals drawing_controls text
   pub again : KeepsPlain text
+  pub portable : form ≡ Portable → IsPortableAnywhere self text
 
 -- The text is a diff between two screens of the same size. If both screens display the same content, the text is empty;
 -- conversely, if the text is empty and the screen `self` is steady, both display the same content.
@@ -92,26 +99,13 @@ pub record IsDiff (self prev : ScreenValue) (text : List ℕ) : Type 0 where
   pub empty : IsSameIfEmpty prev self text
   pub again : KeepsPlain text
 
--- The kind of a diff: one that moves no rows or columns, one that may move rows or columns, or one of these in which
--- runs of the given characters may be written with REP (ECMA-48, 8.3.103).
-pub data Kind : Type 0 where
-  Drawn : Kind
-  Scrolling : Kind
-  Repeating : (scroll : Bool) → (repeat : Repeat) → Kind
+-- The options of `Mirror::update`: the diff moves no rows or columns, contains no REP and need not be portable.
+abbrev pub default_options : DiffOptions
+default_options = record { scroll = false; repeat = Never; portable = false }
 
--- The kind of a diff without REP, given whether the diff may move rows or columns.
-abbrev pub kind_without_repeats : (scroll : Bool) → Kind
-kind_without_repeats true = Scrolling
-kind_without_repeats false = Drawn
-
--- The kind of a diff, given whether the diff may move rows or columns and which characters REP may repeat.
-abbrev pub kind_repeating : (scroll : Bool) → Repeat → Kind
-kind_repeating scroll Never = kind_without_repeats scroll
-kind_repeating scroll repeat = Repeating scroll repeat
-
--- The kind of diff that the options ask for.
-abbrev pub kind_with : DiffOptions → Kind
-kind_with options = kind_repeating options.scroll options.repeat
+-- The options of `Mirror::update_scrolling`.
+abbrev pub scrolling_options : DiffOptions
+scrolling_options = record { scroll = true; repeat = Never; portable = false }
 
 -- The text is a diff that moves no rows or columns. If the screen `self` is steady, the diff touches only the positions
 -- that `IsLocal` allows, which are near differences between the two screens.
@@ -131,64 +125,78 @@ pub record Scrolls (self prev : ScreenValue) (text : List ℕ) : Type 0 where
   pub shorter : length text ≤ length (bytes_of_all (difference (display self) (display prev)))
   pub redraw : length text ≤ length (shown_text self)
 
--- The text is a diff without REP, which may move rows or columns if `scroll` is true.
-abbrev pub IsWithoutRepeats : (scroll : Bool) → (self prev : ScreenValue) → (text : List ℕ) → Type 0
-IsWithoutRepeats true self prev text = Scrolls self prev text
-IsWithoutRepeats false self prev text = IsDrawn self prev text
+-- The text is a diff with the given options, as `Screen::contents_diff_with` returns it. With `scroll`, the diff starts
+-- from a steady screen.
+pub record IsChosen (options : DiffOptions) (self prev : ScreenValue) (text : List ℕ) : Type 0 where
+  pub size : SameSize self.page prev.page
+  pub from_steady : options.scroll ≡ true → IsSteady (display prev)
+  pub is : IsDiffWith options prev self text
+  pub controls : IsMadeOf (finals_with options.repeat options.scroll) (diff_controls options.scroll) text
+  pub rows : RepeatsOnlyInRows prev self text
+  pub again : KeepsScreensPlain text
+  pub shorter : length text ≤ length (display_change_in (form_with options) prev self)
+  pub redraw : IsTrue options.scroll → length text ≤ length (shown_text_in (form_with options) self)
+  pub redraws : RedrawsFrom prev self text
+  pub empty : IsSameIfEmpty prev self text
+  pub none : display self ≡ display prev → text ≡ []
+  pub portable : IsTrue options.portable → IsPortableFrom prev self text
 
--- The text equals a diff without REP, which may move rows or columns if `scroll` is true, except that runs of the
--- characters that `repeat` allows may be written with REP. It contains only drawing sequences and REP.
-pub record RepeatsRuns (scroll : Bool) (repeat : Repeat) (self prev : ScreenValue) (text : List ℕ) : Type 0 where
-  pub plain : List ℕ
-  pub is : IsWithoutRepeats scroll self prev plain
-  pub repeats : MayRepeat repeat prev plain text
-  pub controls : IsMadeOf (finals_with repeat scroll) (diff_controls scroll) text
+-- The text is a diff with the given options, whose fields are given first: the diff of `Mirror::update` or of
+-- `Mirror::update_scrolling` for the options of these functions, otherwise a diff as `IsChosen` describes.
+abbrev pub IsDiffBy : (portable : Bool) (repeat : Repeat) (scroll : Bool) → DiffOptions → (self prev : ScreenValue) →
+    (text : List ℕ) → Type 0
+IsDiffBy false Never false options self prev text = IsDrawn self prev text
+IsDiffBy false Never true options self prev text = Scrolls self prev text
+IsDiffBy portable repeat scroll options self prev text = IsChosen options self prev text
 
-abbrev pub IsOfKind : Kind → (self prev : ScreenValue) → (text : List ℕ) → Type 0
-IsOfKind Drawn self prev text = IsDrawn self prev text
-IsOfKind Scrolling self prev text = Scrolls self prev text
-IsOfKind (Repeating scroll repeat) self prev text = RepeatsRuns scroll repeat self prev text
+abbrev pub IsDiffFor : DiffOptions → (self prev : ScreenValue) → (text : List ℕ) → Type 0
+IsDiffFor options self prev text = IsDiffBy options.portable options.repeat options.scroll options self prev text
 
-abbrev pub IsFullUpdate : (self : ScreenValue) → Update → Type 0
-IsFullUpdate self (Full rows cols text) = IsFull self rows cols (string_bytes text)
-IsFullUpdate self (Diff text) = ⊥
+abbrev pub IsFullUpdate : Form → (self : ScreenValue) → Update → Type 0
+IsFullUpdate form self (Full rows cols text) = IsFull form self rows cols (string_bytes text)
+IsFullUpdate form self (Diff text) = ⊥
 
--- The update is a full redraw although a screen is recorded for the viewer. This is possible only if rows or columns
--- may move, and only if the recorded screen is not steady.
-abbrev pub IsFullAfter : Kind → (self prev : ScreenValue) → (rows cols : ℕ) → (text : List ℕ) → Type 0
-IsFullAfter Drawn self prev rows cols text = ⊥
-IsFullAfter Scrolling self prev rows cols text = (IsSteady (display prev) → ⊥) × IsFull self rows cols text
-IsFullAfter (Repeating true repeat) self prev rows cols text =
-    (IsSteady (display prev) → ⊥) × IsFull self rows cols text
-IsFullAfter (Repeating false repeat) self prev rows cols text = ⊥
+-- The update is a full redraw although a screen is recorded for the viewer. This is possible only with `scroll`, and
+-- only if the recorded screen is not steady.
+pub record IsFullAfter (options : DiffOptions) (self prev : ScreenValue) (rows cols : ℕ) (text : List ℕ) : Type 0 where
+  pub scrolls : options.scroll ≡ true
+  pub unsteady : IsSteady (display prev) → ⊥
+  pub full : IsFull (form_with options) self rows cols text
 
--- The update is a full redraw if no screen is recorded for the viewer. Otherwise, the update is a diff of the given
--- kind from the recorded screen, or a full redraw as `IsFullAfter` describes.
-abbrev pub IsUpdate : Kind → (self : ScreenValue) → Option ScreenValue → Update → Type 0
-IsUpdate kind self (Some prev) (Diff text) = IsOfKind kind self prev (string_bytes text)
-IsUpdate kind self (Some prev) (Full rows cols text) = IsFullAfter kind self prev rows cols (string_bytes text)
-IsUpdate kind self None update = IsFullUpdate self update
+-- The update is a full redraw in the form that the options ask for if no screen is recorded for the viewer. Otherwise,
+-- the update is a diff with the options from the recorded screen, or a full redraw as `IsFullAfter` describes.
+abbrev pub IsUpdate : DiffOptions → (self : ScreenValue) → Option ScreenValue → Update → Type 0
+IsUpdate options self (Some prev) (Diff text) = IsDiffFor options self prev (string_bytes text)
+IsUpdate options self (Some prev) (Full rows cols text) = IsFullAfter options self prev rows cols (string_bytes text)
+IsUpdate options self None update = IsFullUpdate (form_with options) self update
 
--- The viewer gets an update of the given kind, and the mirror's screen, which is valid, is recorded for this viewer.
-pub record GivesUpdate (kind : Kind) (old : MirrorValue) (viewer : ℕ) (update : Update) (new : MirrorValue) : Type 0 where
+-- The update is portable: the text of a full redraw on every terminal, and that of a diff on terminals that display the
+-- recorded screen.
+abbrev pub IsPortableUpdate : (self : ScreenValue) → Option ScreenValue → Update → Type 0
+IsPortableUpdate self noted (Full rows cols text) = IsPortableAnywhere self (string_bytes text)
+IsPortableUpdate self (Some prev) (Diff text) = IsPortableFrom prev self (string_bytes text)
+IsPortableUpdate self None (Diff text) = ⊥
+
+-- The viewer gets an update with the given options, and the mirror's screen, which is valid, is recorded for this viewer.
+pub record GivesUpdate (options : DiffOptions) (old : MirrorValue) (viewer : ℕ) (update : Update) (new : MirrorValue) : Type 0 where
   pub is : is_viewer old.viewers viewer ≡ true
   pub whole : IsScreen old.parser.screen
   pub colored : IsColored old.parser.screen
-  pub text : IsUpdate kind old.parser.screen (note_of old.viewers viewer) update
+  pub text : IsUpdate options old.parser.screen (note_of old.viewers viewer) update
   pub parser : new.parser ≡ old.parser
   pub last : new.viewers.last ≡ old.viewers.last
   pub puts : Puts old.viewers viewer true (Some old.parser.screen) new.viewers
   pub current : PutsAmong old.current viewer true new.current
 
 -- The effect of a successful request for an update; `None` means that no viewer has the given number.
-abbrev pub Answers : Kind → (old : MirrorValue) → ℕ → Option Update → (new : MirrorValue) → Type 0
-Answers kind old viewer None new = (is_viewer old.viewers viewer ≡ false) × (new ≡ old)
-Answers kind old viewer (Some update) new = GivesUpdate kind old viewer update new
+abbrev pub Answers : DiffOptions → (old : MirrorValue) → ℕ → Option Update → (new : MirrorValue) → Type 0
+Answers options old viewer None new = (is_viewer old.viewers viewer ≡ false) × (new ≡ old)
+Answers options old viewer (Some update) new = GivesUpdate options old viewer update new
 
--- The effect of `update`, `update_scrolling` or `update_with`. If no viewer has the given number, the result is
--- `Ok(None)`. On error, nothing is changed.
-pub record Asks (kind : Kind) (old : MirrorValue) (viewer : ℕ)
+-- The effect of `update`, `update_scrolling` or `update_with`, given the options. If no viewer has the given number, the
+-- result is `Ok(None)`. On error, nothing is changed.
+pub record Asks (options : DiffOptions) (old : MirrorValue) (viewer : ℕ)
     (answer : Result (Option Update) Error) (new : MirrorValue) : Type 0 where
   pub nobody : is_viewer old.viewers viewer ≡ false → answer ≡ Ok None
-  pub answers : IfOk answer (λ update. Answers kind old viewer update new)
+  pub answers : IfOk answer (λ update. Answers options old viewer update new)
   pub refused : IfErr answer (λ error. (error ≡ OutOfMemory) × (new ≡ old))

@@ -1,5 +1,5 @@
 -- Auxiliary definitions that are cited only by the contracts of private functions.
-use Rattle.std.specs.Prelude.{◌≡◌, ℕ, ◌*◌, ◌+◌, ◌<◌, ◌≤◌, Bool, false, true, List, [], ◌∷◌, length, Some, None, string_bytes}
+use Rattle.std.specs.Prelude.{◌≡◌, ℕ, ◌*◌, ◌+◌, ◌<◌, ◌≤◌, Bool, false, true, List, ◌∷◌, length, Some, None, string_bytes}
 use Rattle.std.specs.Io.KnownBytes.{Appends, Consumes, IsAtEnd}
 use Rattle.std.specs.List.{AllByRecursion}
 use Rattle.std.specs.declared.option.Option.{Option}
@@ -8,11 +8,7 @@ use Rattle.vt_scan.specs.Automaton.{start}
 use Rattle.vt_scan.specs.Scanner.{StandsFor}
 use Rattle.vt_screen.specs.Chain.{last_screen}
 use Rattle.vt100.specs.Parser.{Ran, does_nothing}
-use Rattle.vt_mirror.specs.Calls.{Drawn, GivesUpdate}
-use Rattle.vt_screen.specs.Diffs.{MayRepeat}
-use Rattle.vt_screen.specs.RepeatInternals.{KeepsPieces}
-use Rattle.vt_screen.specs.Screen.{ScreenValue}
-use Rattle.vt_screen.specs.declared.repeat.Repeat.{Repeat}
+use Rattle.vt_mirror.specs.Calls.{GivesUpdate, default_options}
 use Rattle.vt_mirror.specs.Mirror.{MirrorValue}
 use Rattle.vt_mirror.specs.Runs.{IsUpdatedAfter, screens_on_way, text_on_way}
 use Rattle.vt_mirror.specs.Viewers.{is_viewer, note_of}
@@ -25,25 +21,11 @@ abbrev pub text_of_update : Update → List ℕ
 text_of_update (Diff text) = string_bytes text
 text_of_update (Full rows cols text) = string_bytes text
 
--- The update `new` equals `plain`, except that runs of the characters that `repeat` allows may be written with REP in a
--- diff from the recorded screen.
-abbrev pub RepeatsUpdate : (repeat : Repeat) → Option ScreenValue → (plain new : Update) → Type 0
-RepeatsUpdate repeat None plain new = new ≡ plain
-RepeatsUpdate repeat (Some prev) (Full rows cols text) new = new ≡ Full rows cols text
-RepeatsUpdate repeat (Some prev) (Diff text) (Full rows cols short) = ⊥
-RepeatsUpdate repeat (Some prev) (Diff text) (Diff short) =
-    MayRepeat repeat prev (string_bytes text) (string_bytes short) × KeepsPieces (string_bytes text) (string_bytes short)
-
--- The update is a full redraw or an empty diff.
-abbrev pub HasNoDiff : Update → Type 0
-HasNoDiff (Full rows cols text) = Unit {0}
-HasNoDiff (Diff text) = string_bytes text ≡ []
-
 -- The viewer got an update, and the text of the update was written: the output was `written` before and is `grown` now.
 pub record WritesUpdate (old : MirrorValue) (viewer : ℕ) (new : MirrorValue)
     (written grown : Option (List ℕ)) : Type 0 where
   pub update : Update
-  pub gives : GivesUpdate Drawn old viewer update new
+  pub gives : GivesUpdate default_options old viewer update new
   pub appends : Appends written grown (text_of_update update)
 
 -- The viewer got an update, and a prefix of the update's text was written: the output was `written` before and is
@@ -51,7 +33,7 @@ pub record WritesUpdate (old : MirrorValue) (viewer : ℕ) (new : MirrorValue)
 pub record WritesUpdatePart (old : MirrorValue) (viewer : ℕ) (new : MirrorValue)
     (written grown : Option (List ℕ)) : Type 0 where
   pub update : Update
-  pub gives : GivesUpdate Drawn old viewer update new
+  pub gives : GivesUpdate default_options old viewer update new
   pub part : AppendsPart written grown (text_of_update update)
 
 -- The mirror read `bytes` from the input. The input was `left` before and is `rest` now. The mirror's viewers and size

@@ -6,29 +6,42 @@ use Rattle.std.specs.BTreeMap.{is_at}
 use Rattle.std.specs.Map.{lookup}
 use Rattle.std.specs.Ordering.{nat_cmp}
 use Rattle.vt_screen.specs.Screen.{ScreenValue}
+use Rattle.vt_screen.specs.declared.diff_options.DiffOptions.{DiffOptions}
 use Rattle.vt_mirror.specs.Viewers.{AreViewers, ViewersValue}
 use Rattle.vt_mirror.specs.Calls.{greatest}
 use Rattle.vt_mirror.specs.declared.copies.Note.{Note}
-use Rattle.vt_mirror.specs.declared.texts.DiffCache.{DiffCache}
 use Rattle.vt_mirror.specs.declared.texts.KeptDiff.{KeptDiff}
+use Rattle.vt_mirror.specs.declared.texts.KeptRedraw.{KeptRedraw}
+use Rattle.vt_mirror.specs.declared.texts.Texts.{Texts}
 
 -- ---- the model of the kept values
-
--- A screen, and the text of the diff from that screen to the current one.
-abbrev pub DiffFrom : Type 0
-DiffFrom = ScreenValue × List ℕ
 
 pub record KeptValue : Type 0 where
   pub viewers : ViewersValue
   -- A copy of the current screen, if there is one.
   pub current : Option ScreenValue
-  -- The diffs stored for `Mirror::update` and `Mirror::update_scrolling`.
-  pub diff : Option DiffFrom
-  pub scrolling : Option DiffFrom
-  -- The text of the current screen's redraw, if stored.
-  pub redraw : Option (List ℕ)
+  -- The stored texts of updates.
+  pub texts : Texts
   -- The numbers of the viewers that received an update since the last input and the last resize.
   pub current_viewers : List ℕ
+
+-- No text is stored.
+abbrev pub no_texts : Texts
+no_texts = record { drawn = None; scrolling = None; redraw = None }
+
+-- The diff is one of the stored ones.
+abbrev pub HoldsDiff : Texts → KeptDiff → Type 0
+HoldsDiff texts diff = (texts.drawn ≡ Some diff) ⊎ (texts.scrolling ≡ Some diff)
+
+-- The stored diff has the given options and the given text.
+pub record IsKeptAs (options : DiffOptions) (text : List ℕ) (diff : KeptDiff) : Type 0 where
+  pub options_are : diff.options ≡ options
+  pub text_is : string_bytes diff.text ≡ text
+
+-- The stored redraw is portable if `portable` is true, and has the given text.
+pub record IsRedrawKeptAs (portable : Bool) (text : List ℕ) (redraw : KeptRedraw) : Type 0 where
+  pub form_is : redraw.portable ≡ portable
+  pub text_is : string_bytes redraw.text ≡ text
 
 -- The recorded screens with their viewer numbers. The version number of each recorded copy is omitted.
 abbrev pub screens_of : List (ℕ × Note) → List (ℕ × ScreenValue)
@@ -37,14 +50,6 @@ screens_of notes = map (λ (e : ℕ × Note). (e.0, e.1.screen)) notes
 abbrev pub screen_of : Option Note → Option ScreenValue
 screen_of None = None
 screen_of (Some note) = Some note.screen
-
-abbrev pub diff_of : Option KeptDiff → Option DiffFrom
-diff_of None = None
-diff_of (Some diff) = Some (diff.from.screen, string_bytes diff.text)
-
-abbrev pub from_of : Option KeptDiff → Option Note
-from_of None = None
-from_of (Some diff) = Some diff.from
 
 -- ---- copies with the same version are copies of the same screen
 
@@ -71,17 +76,15 @@ current_in numbers notes current = filter (λ viewer. is_of_current current (not
 pub record Copies : Type 0 where
   pub notes : List (ℕ × Note)
   pub current : Option Note
-  pub diff : Option Note
-  pub scrolling : Option Note
+  pub texts : Texts
 
-abbrev pub copies_of : List (ℕ × Note) → Option Note → (diff scrolling : DiffCache) → Copies
-copies_of notes current diff scrolling =
-    record { notes = notes; current = current; diff = from_of diff.last; scrolling = from_of scrolling.last }
+abbrev pub copies_of : List (ℕ × Note) → Option Note → Texts → Copies
+copies_of notes current texts = record { notes = notes; current = current; texts = texts }
 
 abbrev pub IsKept : Copies → Note → Type 0
 IsKept copies note =
     ((viewer : ℕ) × (noted_at copies.notes viewer ≡ Some note))
-    ⊎ ((copies.current ≡ Some note) ⊎ ((copies.diff ≡ Some note) ⊎ (copies.scrolling ≡ Some note)))
+    ⊎ ((copies.current ≡ Some note) ⊎ ((diff : KeptDiff) × HoldsDiff copies.texts diff × (diff.from ≡ note)))
 
 -- The two copies share a version number other than 0; a copy with the number 0 has no version.
 pub record AreOfOneVersion (one other : Note) : Type 0 where

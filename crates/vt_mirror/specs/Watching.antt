@@ -8,10 +8,11 @@ use Rattle.vt_redraw.specs.Steady.{IsSteady}
 use Rattle.vt_screen.specs.Pages.{screen_after_resize}
 use Rattle.vt_screen.specs.Screen.{IsScreen, ScreenValue}
 use Rattle.vt_screen.specs.Shown.{display}
+use Rattle.vt_screen.specs.declared.diff_options.DiffOptions.{DiffOptions}
 use Rattle.vt100.specs.Parser.{ParserValue}
 use Rattle.vt100.specs.Pieces as pieces
 use Rattle.vt100.specs.Pieces.{IsPlainParser, Processing, bytes_in}
-use Rattle.vt_mirror.specs.Calls.{Asks, JoinsMirror, Kind, Leaves, MirrorProcesses, Resizes}
+use Rattle.vt_mirror.specs.Calls.{Asks, JoinsMirror, Leaves, MirrorProcesses, Resizes}
 use Rattle.vt_mirror.specs.Mirror.{MirrorValue}
 use Rattle.vt_mirror.specs.declared.update.Update.{Update}
 use Rattle.vt_mirror.specs.declared.update.Update.TheVariants.{Diff, Full}
@@ -24,7 +25,7 @@ pub data MirrorCall : Type 0 where
   SetSize : (rows : ℕ) → (cols : ℕ) → (answer : Result (Unit {0}) Error) → MirrorCall
   Join : (answer : Result ℕ Error) → MirrorCall
   Leave : (viewer : ℕ) → (answer : Bool) → MirrorCall
-  Ask : (kind : Kind) → (viewer : ℕ) → (answer : Result (Option Update) Error) → MirrorCall
+  Ask : (options : DiffOptions) → (viewer : ℕ) → (answer : Result (Option Update) Error) → MirrorCall
 
 -- The effect that a call to a mirror has on the mirror.
 abbrev pub MirrorDoes : MirrorValue → MirrorCall → MirrorValue → Type 0
@@ -32,7 +33,7 @@ MirrorDoes old (Process bytes answer) new = MirrorProcesses old bytes answer new
 MirrorDoes old (SetSize rows cols answer) new = Resizes old rows cols answer new
 MirrorDoes old (Join answer) new = (new.parser ≡ old.parser) × JoinsMirror old.viewers answer new.viewers
 MirrorDoes old (Leave viewer answer) new = (new.parser ≡ old.parser) × Leaves old.viewers viewer answer new.viewers
-MirrorDoes old (Ask kind viewer answer) new = Asks kind old viewer answer new
+MirrorDoes old (Ask options viewer answer) new = Asks options old viewer answer new
 
 -- The mirror has never had a viewer.
 pub record IsFresh (mirror : MirrorValue) : Type 0 where
@@ -101,9 +102,9 @@ Watches {S} number old (Process bytes answer) new = IsLeft old new
 Watches {S} number old (SetSize rows cols answer) new = IsLeft old new
 Watches {S} number old (Join answer) new = IsLeft old new
 Watches {S} number old (Leave viewer answer) new = IsLeft old new
-Watches {S} number old (Ask kind viewer (Ok (Some update))) new = IsTakenBy number viewer update old new
-Watches {S} number old (Ask kind viewer (Ok None)) new = IsLeft old new
-Watches {S} number old (Ask kind viewer (Err error)) new = IsLeft old new
+Watches {S} number old (Ask options viewer (Ok (Some update))) new = IsTakenBy number viewer update old new
+Watches {S} number old (Ask options viewer (Ok None)) new = IsLeft old new
+Watches {S} number old (Ask options viewer (Err error)) new = IsLeft old new
 
 -- The effect of a call to a mirror on the mirror and on the viewer with the given number.
 abbrev pub Goes : {S : Type 0} → ℕ → Watching S → MirrorCall → Watching S → Type 0

@@ -1,27 +1,27 @@
 //! A terminal with viewers.
 
-ghost use Rattle.std.specs.Prelude.{◌≡◌, IfOk, IsOk, IsTrue, None, OnErr, OnOk, Some, [], false, string_bytes, true, ℕ};
+ghost use Rattle.std.specs.Prelude.{◌≡◌, IfOk, IfSome, IsOk, IsTrue, None, OnErr, OnOk, Some, [], false, string_bytes, true, ℕ};
 ghost use Rattle.vt_cells.specs.Refusals.{OnlyOutOfMemory};
-ghost use Rattle.vt_mirror.specs.Calls.{Asks, Drawn, IsFullUpdate, IsUpdate, JoinsMirror, Leaves};
-ghost use Rattle.vt_mirror.specs.Calls.{MirrorProcesses, Resizes, Scrolling};
-ghost use Rattle.vt_mirror.specs.Internals.{HasNoDiff};
+ghost use Rattle.vt_grid.specs.Page.{SameSize};
+ghost use Rattle.vt_mirror.specs.Calls.{Asks, IsDiffFor, IsFullUpdate, IsPortableUpdate, IsUpdate, JoinsMirror, Leaves};
+ghost use Rattle.vt_mirror.specs.Calls.{MirrorProcesses, Resizes, default_options, scrolling_options};
 ghost use Rattle.vt_mirror.specs.Mirror.{ShowsFreshScreen, is_current};
 ghost use Rattle.vt_mirror.specs.Sharing.{IsRedraw};
 ghost use Rattle.vt_mirror.specs.Viewers.{Puts, PutsAmong, is_viewer, note_of};
 ghost use Rattle.vt_redraw.specs.Steady.{IsSteady};
+ghost use Rattle.vt_redraw.specs.declared.form.Form.{Form};
 ghost use Rattle.vt_scan.specs.Automaton.{start};
 ghost use Rattle.vt_scan.specs.Scanner.{StandsFor};
 ghost use Rattle.vt_screen.specs.Screen.{IsColored, IsScreen};
-ghost use Rattle.vt_screen.specs.Shown.{display};
-
-mod options;
+ghost use Rattle.vt_screen.specs.Shown.{display, form_of};
+ghost use Rattle.vt_screen.specs.TextResults.{IfText};
 
 use crate::update::Update;
 use crate::viewers::Viewers;
 use std::alloc::Global;
 use std::marker::Model;
 use std::num::NonZeroU16;
-use vt100::{Error, Parser, Screen};
+use vt100::{DiffOptions, Error, Parser, RedrawOptions, Repeat, Screen};
 
 /// An in-memory terminal with any number of viewers: other terminals that are
 /// kept in sync with it by escape sequences.
@@ -193,15 +193,10 @@ impl Mirror {
     /// requested again. There is no error if the viewer is up to date (clause `never`; see
     /// [`is_current`](Mirror::is_current)).
     pub fn update(&mut self, viewer: u64) -> Result<Option<Update>, Error>
-        ensures call { Asks Drawn self.old viewer result self.new }
+        ensures call { Asks default_options self.old viewer result self.new }
         ensures never { is_current self.old viewer ≡ true → IsOk result }
     {
-        if !self.viewers.has(viewer) {
-            return Ok(None);
-        }
-        let update = self.drawn_update(viewer)?;
-        self.note(viewer)?;
-        Ok(Some(update))
+        self.update_with(viewer, DiffOptions::default())
     }
 
     /// Returns the viewer's next update, as [`update`](Mirror::update) does, except that a diff may
@@ -221,13 +216,54 @@ impl Mirror {
     /// changed, and the same update can be requested again. There is no error if the viewer is up
     /// to date and the screen is steady (clause `never`).
     pub fn update_scrolling(&mut self, viewer: u64) -> Result<Option<Update>, Error>
-        ensures call { Asks Scrolling self.old viewer result self.new }
+        ensures call { Asks scrolling_options self.old viewer result self.new }
         ensures never { is_current self.old viewer ≡ true → IsSteady (display self.old.parser.screen) → IsOk result }
+    {
+        let options = DiffOptions {
+            scroll: true,
+            ..DiffOptions::default()
+        };
+        self.update_with(viewer, options)
+    }
+
+    /// Returns the viewer's next update, as [`update`](Mirror::update) does, with the given
+    /// options.
+    ///
+    /// With `scroll`, a diff may begin by moving rows or columns, and the update is a full one if
+    /// the screen at the viewer's last update was not steady, as with
+    /// [`update_scrolling`](Mirror::update_scrolling). Runs of the one-column characters that
+    /// `repeat` allows may be written with REP (ECMA-48, 8.3.103) in a diff, as with
+    /// `Screen::contents_diff_with`. Some terminals ignore REP, and tmux 3.3a performs it only after
+    /// ASCII characters, so allow only what the viewer's terminal performs. Each update may use
+    /// different options, and may also come from `update` or `update_scrolling`.
+    ///
+    /// With `portable`, the update avoids sequences on whose effects terminals disagree, as
+    /// `Screen::contents_formatted_with` and `Screen::contents_diff_with` do. If the screen is
+    /// steady, terminals agree on the effect of each sequence of a full update, whatever they
+    /// differ in before, and terminals that display the screen at the viewer's last update agree on
+    /// that of each sequence of a diff (clause `portable`).
+    ///
+    /// # Errors
+    ///
+    /// Returns `Error::OutOfMemory` if an allocation fails, as `update` does.
+    /// On error, nothing is changed, and the same update can be requested
+    /// again. There is no error if the viewer is up to date and the screen is
+    /// steady; without `scroll`, the screen need not be steady (clause `never`).
+    pub fn update_with(
+        &mut self,
+        viewer: u64,
+        options: DiffOptions,
+    ) -> Result<Option<Update>, Error>
+        ensures call { Asks options self.old viewer result self.new }
+        ensures portable { IsTrue options.portable → IfOk result (λ update.
+            IfSome update (IsPortableUpdate self.old.parser.screen (note_of self.old.viewers viewer))) }
+        ensures never { is_current self.old viewer ≡ true →
+            (options.scroll ≡ true → IsSteady (display self.old.parser.screen)) → IsOk result }
     {
         if !self.viewers.has(viewer) {
             return Ok(None);
         }
-        let update = self.scrolling_update(viewer)?;
+        let update = self.next_update(viewer, options)?;
         self.note(viewer)?;
         Ok(Some(update))
     }
@@ -248,101 +284,65 @@ impl Mirror {
         self.viewers.is_current(viewer)
     }
 
-    /// Returns an update with the full redraw of the screen.
+    /// Returns an update with the full redraw of the screen, in the portable or in the fixed form.
     ///
     /// # Errors
     ///
     /// Returns `Error::OutOfMemory` if the text of the update cannot be allocated.
-    fn full(&mut self) -> Result<Update, Error>
+    fn full(&mut self, portable: bool) -> Result<Update, Error>
         ensures same { self.new ≡ self.old }
-        ensures ok { IfOk result (λ update. IsFullUpdate self.old.parser.screen update) }
+        ensures ok { IfOk result (λ update. IsFullUpdate (form_of portable) self.old.parser.screen update) }
         ensures memory { OnlyOutOfMemory result }
     {
         let screen = self.parser.screen();
-        if let Some(kept) = self.viewers.kept_redraw() {
+        if let Some(kept) = self.viewers.kept_redraw(portable) {
             let copy = String::from_str(self.alloc, kept)?;
             return Ok(full_of(screen, copy));
         }
-        let text = screen.contents_formatted()?;
-        self.viewers.keep_redraw(text.as_str(), self.alloc);
+        let text = screen.contents_formatted_with(RedrawOptions { portable })?;
+        self.viewers
+            .keep_redraw(portable, text.as_str(), self.alloc);
         Ok(full_of(screen, text))
     }
 
-    /// Returns the diff from the screen recorded for a viewer to the current screen, or the full
-    /// redraw if no screen is recorded.
+    /// Returns the diff with the given options from the screen recorded for a viewer to the current
+    /// screen. Returns the full redraw instead if no screen is recorded, or if `options.scroll` is
+    /// true and the recorded screen is not steady.
     ///
     /// # Errors
     ///
     /// Returns `Error::OutOfMemory` if the text of the update cannot be allocated.
-    fn drawn_update(&mut self, viewer: u64) -> Result<Update, Error>
+    fn next_update(&mut self, viewer: u64, options: DiffOptions) -> Result<Update, Error>
         ensures same { self.new ≡ self.old }
         ensures whole { IsScreen self.new.parser.screen }
         ensures colored { IsColored self.new.parser.screen }
         ensures ok { IfOk result
-            (λ update. IsUpdate Drawn self.old.parser.screen (note_of self.old.viewers viewer) update) }
-        ensures idle { is_current self.old viewer ≡ true → IfOk result HasNoDiff }
+            (λ update. IsUpdate options self.old.parser.screen (note_of self.old.viewers viewer) update) }
         ensures memory { OnlyOutOfMemory result }
-        ensures never { is_current self.old viewer ≡ true → IsOk result }
-    {
-        let screen = self.parser.screen();
-        // Only for the proof: the contract of `size` says that every screen is valid.
-        screen.size();
-        if self.viewers.is_current(viewer) {
-            let text = String::new(self.alloc);
-            return Ok(Update::Diff(text));
-        }
-        let Some(noted) = self.viewers.noted(viewer) else {
-            return self.full();
-        };
-        if let Some(kept) = self.viewers.kept_diff(viewer) {
-            let copy = String::from_str(self.alloc, kept)?;
-            return Ok(Update::Diff(copy));
-        }
-        let prev = noted.screen();
-        let text = screen.contents_diff(prev)?;
-        self.viewers.keep_diff(viewer, text.as_str(), self.alloc);
-        Ok(Update::Diff(text))
-    }
-
-    /// Returns the diff from the screen recorded for a viewer to the current screen. The diff may
-    /// begin by moving rows or columns. Returns the full redraw instead if no screen is recorded or
-    /// the recorded screen is not steady.
-    ///
-    /// # Errors
-    ///
-    /// Returns `Error::OutOfMemory` if the text of the update cannot be allocated.
-    fn scrolling_update(&mut self, viewer: u64) -> Result<Update, Error>
-        ensures same { self.new ≡ self.old }
-        ensures whole { IsScreen self.new.parser.screen }
-        ensures colored { IsColored self.new.parser.screen }
-        ensures ok { IfOk result
-            (λ update. IsUpdate Scrolling self.old.parser.screen (note_of self.old.viewers viewer) update) }
-        ensures idle { is_current self.old viewer ≡ true → IfOk result HasNoDiff }
-        ensures memory { OnlyOutOfMemory result }
-        ensures never { is_current self.old viewer ≡ true → IsSteady (display self.old.parser.screen) → IsOk result }
+        ensures never { is_current self.old viewer ≡ true →
+            (options.scroll ≡ true → IsSteady (display self.old.parser.screen)) → IsOk result }
     {
         let screen = self.parser.screen();
         // Only for the proof: the contract of `size` says that every screen is valid.
         screen.size();
         let is_current = self.viewers.is_current(viewer);
         let Some(noted) = self.viewers.noted(viewer) else {
-            return self.full();
+            return self.full(options.portable);
         };
-        if !noted.is_steady() {
-            return self.full();
+        if options.scroll && !noted.is_steady() {
+            return self.full(options.portable);
         }
         if is_current {
             let text = String::new(self.alloc);
             return Ok(Update::Diff(text));
         }
-        if let Some(kept) = self.viewers.kept_scrolling(viewer) {
+        if let Some(kept) = self.viewers.kept_diff(viewer, options) {
             let copy = String::from_str(self.alloc, kept)?;
             return Ok(Update::Diff(copy));
         }
-        let prev = noted.screen();
-        let text = screen.contents_diff_scrolling(prev)?;
+        let text = diff_between(screen, noted.screen(), options)?;
         self.viewers
-            .keep_scrolling(viewer, text.as_str(), self.alloc);
+            .keep_diff(viewer, options, text.as_str(), self.alloc);
         Ok(Update::Diff(text))
     }
 
@@ -368,10 +368,33 @@ impl Mirror {
     }
 }
 
-/// Returns a full update with the given text and the size of the screen.
+/// Returns the diff with the given options from `prev` to `screen`.
+///
+/// # Errors
+///
+/// Returns `Error::OutOfMemory` if the diff cannot be allocated.
+fn diff_between(screen: &Screen, prev: &Screen, options: DiffOptions) -> Result<String, Error>
+    requires size { SameSize screen.now.page prev.now.page }
+    requires steady { options.scroll ≡ true → IsSteady (display prev.now) }
+    ensures text { IfText result (IsDiffFor options screen.now prev.now) }
+    ensures memory { OnlyOutOfMemory result }
+{
+    if options.portable || options.repeat != Repeat::Never {
+        let text = screen.contents_diff_with(prev, options)?;
+        return Ok(text);
+    }
+    // Only for the proof: the contracts of these functions say more than that of
+    // `contents_diff_with`, which returns the same.
+    if options.scroll {
+        let text = screen.contents_diff_scrolling(prev)?;
+        return Ok(text);
+    }
+    screen.contents_diff(prev)
+}
+
+/// Returns a full update with the given text, a redraw in some form, and the size of the screen.
 fn full_of(screen: &Screen, text: String) -> Update
-    requires { IsRedraw screen.now (string_bytes text) }
-    ensures { IsFullUpdate screen.now result }
+    ensures { (form : Form) → IsRedraw form screen.now (string_bytes text) → IsFullUpdate form screen.now result }
 {
     let (rows, cols) = screen.size();
     Update::Full {

@@ -1,52 +1,79 @@
-//! A cache for the text of a diff that several viewers may request.
+//! The texts of updates that several viewers may request.
 
-ghost use Rattle.std.specs.Prelude.{◌≡◌, ◌⊎◌, IfSome, None, Some, string_bytes};
-ghost use Rattle.vt_mirror.specs.Kept.{AreOfOneVersion};
+ghost use Rattle.std.specs.Prelude.{◌≡◌, ◌⊎◌, IfSome, Some, if◌then◌else◌};
+ghost use Rattle.vt_mirror.specs.Kept.{AreOfOneVersion, HoldsDiff, IsKeptAs, IsRedrawKeptAs, no_texts};
 ghost use Rattle.vt_mirror.specs.declared.texts.KeptDiff.{KeptDiff};
+ghost use Rattle.vt_mirror.specs.declared.texts.KeptRedraw.{KeptRedraw};
 
 use crate::copies::Note;
 use std::alloc::Global;
+use vt100::DiffOptions;
 
-/// The text of a diff, with a copy of the screen from which the diff starts.
+/// The text of a diff, with its options and a copy of the screen from which the diff starts.
 #[derive(Drop)]
 pub(crate) struct KeptDiff {
     from: Note,
+    options: DiffOptions,
     text: String,
 }
 
-/// A cache for the text of the last computed diff to the current screen. Viewers that were last
-/// updated to the same screen need the same diff.
+/// The text of a redraw, and whether it is the portable form.
 #[derive(Drop)]
-pub(crate) struct DiffCache {
-    last: Option<KeptDiff>,
+pub(crate) struct KeptRedraw {
+    portable: bool,
+    text: String,
 }
 
-impl DiffCache {
-    /// Creates an empty cache.
-    pub(crate) fn new() -> DiffCache
-        ensures { result.last ≡ None }
+/// The stored texts of updates to the current screen: the last computed redraw and, with and
+/// without the option `scroll`, the last computed diff. Viewers that were last updated to the same
+/// screen need the same diff if they request it with the same options.
+#[derive(Drop)]
+pub(crate) struct Texts {
+    drawn: Option<KeptDiff>,
+    scrolling: Option<KeptDiff>,
+    redraw: Option<KeptRedraw>,
+}
+
+impl Texts {
+    /// Creates an empty store.
+    pub(crate) fn new() -> Texts
+        ensures { result ≡ no_texts }
     {
-        DiffCache { last: None }
+        Texts {
+            drawn: None,
+            scrolling: None,
+            redraw: None,
+        }
     }
 
-    /// Returns the cached text of the diff from the screen copied in `note` to the current screen,
-    /// or `None` if that text is not in the cache.
-    pub(crate) fn get(&self, note: &Note) -> Option<&str>
-        ensures { IfSome result (λ text. (diff : KeptDiff) × (self.now.last ≡ Some diff)
-            × AreOfOneVersion note.now diff.from × (text.now ≡ string_bytes diff.text)) }
+    /// Returns the last computed diff with or without `scroll`, if it is stored.
+    fn last_diff(&self, scroll: bool) -> &Option<KeptDiff>
+        ensures { result.now ≡ (if scroll then self.now.scrolling else self.now.drawn) }
     {
-        match &self.last {
-            Some(diff) if note.is_of_version(&diff.from) => Some(diff.text.as_str()),
+        if scroll { &self.scrolling } else { &self.drawn }
+    }
+
+    /// Returns the stored text of the diff with the given options from the screen copied in `note`
+    /// to the current screen, or `None` if that text is not stored.
+    pub(crate) fn diff(&self, note: &Note, options: DiffOptions) -> Option<&str>
+        ensures { IfSome result (λ text. (diff : KeptDiff) × HoldsDiff self.now diff
+            × AreOfOneVersion note.now diff.from × IsKeptAs options text.now diff) }
+    {
+        match self.last_diff(options.scroll) {
+            Some(diff) if note.is_of_version(&diff.from) && diff.options == options => {
+                Some(diff.text.as_str())
+            }
             _ => None,
         }
     }
 
-    /// Stores `text`, the diff from the screen copied in `note` to the current screen, if the copy
-    /// has other holders, which may need the same diff. Otherwise, or if an allocation fails, the
-    /// cache is unchanged.
-    pub(crate) fn keep(&mut self, note: &Note, text: &str, alloc: Global)
-        ensures { (self.new ≡ self.old) ⊎ ((diff : KeptDiff) × (self.new.last ≡ Some diff)
-            × (diff.from ≡ note.now) × (string_bytes diff.text ≡ text.now)) }
+    /// Stores `text`, the diff with the given options from the screen copied in `note` to the
+    /// current screen, if the copy has other holders, which may need the same diff. Otherwise, or
+    /// if an allocation fails, nothing is changed.
+    pub(crate) fn keep_diff(&mut self, note: &Note, options: DiffOptions, text: &str, alloc: Global)
+        ensures diffs { (diff : KeptDiff) → HoldsDiff self.new diff →
+            HoldsDiff self.old diff ⊎ ((diff.from ≡ note.now) × IsKeptAs options text.now diff) }
+        ensures redraw { self.new.redraw ≡ self.old.redraw }
     {
         if !note.screen.is_held_by_others() {
             return;
@@ -57,13 +84,39 @@ impl DiffCache {
         let Ok(text) = String::from_str(alloc, text) else {
             return;
         };
-        self.last = Some(KeptDiff { from, text });
+        let diff = Some(KeptDiff {
+            from,
+            options,
+            text,
+        });
+        if options.scroll {
+            self.scrolling = diff;
+        } else {
+            self.drawn = diff;
+        }
     }
 
-    /// Empties the cache. The cache must be emptied when the screen changes.
-    pub(crate) fn clear(&mut self)
-        ensures { self.new.last ≡ None }
+    /// Returns the stored text of the current screen's redraw in the portable or in the fixed form,
+    /// or `None` if that text is not stored.
+    pub(crate) fn redraw(&self, portable: bool) -> Option<&str>
+        ensures { IfSome result (λ text. (kept : KeptRedraw) × (self.now.redraw ≡ Some kept)
+            × IsRedrawKeptAs portable text.now kept) }
     {
-        self.last = None;
+        match &self.redraw {
+            Some(kept) if kept.portable == portable => Some(kept.text.as_str()),
+            _ => None,
+        }
+    }
+
+    /// Stores `text`, the current screen's redraw in the portable or in the fixed form. If an
+    /// allocation fails, nothing is changed.
+    pub(crate) fn keep_redraw(&mut self, portable: bool, text: &str, alloc: Global)
+        ensures { (self.new ≡ self.old) ⊎ ((kept : KeptRedraw) × (self.new ≡ record self.old { redraw = Some kept })
+            × IsRedrawKeptAs portable text.now kept) }
+    {
+        let Ok(text) = String::from_str(alloc, text) else {
+            return;
+        };
+        self.redraw = Some(KeptRedraw { portable, text });
     }
 }

@@ -1,20 +1,23 @@
 //! The viewers of a mirror.
 
-ghost use Rattle.std.specs.Prelude.{◌≡◌, ◌≢◌, ◌⊎◌, IfNone, IfOk, IfSome, IsOk, IsTrue, None, OnErr, OnOk, Some, [], false, option_copied, true, ℕ};
+ghost use Rattle.std.specs.Prelude.{◌≡◌, ◌≢◌, ◌⊎◌, IfNone, IfOk, IfSome, IsOk, IsTrue, None, OnErr, OnOk, Some, [], false, true, ℕ};
 ghost use Rattle.vt_cells.specs.Refusals.{OnlyOutOfMemory};
 ghost use Rattle.vt_mirror.specs.Calls.{JoinsMirror, Leaves, greatest};
-ghost use Rattle.vt_mirror.specs.Kept.{HasVersion, HaveNext, IsCurrentNote, IsRenewed};
+ghost use Rattle.vt_mirror.specs.Kept.{HasVersion, HaveNext, HoldsDiff, IsCurrentNote, IsKeptAs, IsRedrawKeptAs};
+ghost use Rattle.vt_mirror.specs.Kept.{IsRenewed, no_texts};
 ghost use Rattle.vt_mirror.specs.Viewers.{Puts, PutsAmong, is_among, is_viewer, next_number, note_of};
+ghost use Rattle.vt_mirror.specs.declared.texts.KeptDiff.{KeptDiff};
+ghost use Rattle.vt_mirror.specs.declared.texts.KeptRedraw.{KeptRedraw};
 ghost use Rattle.vt_screen.specs.Screen.{ScreenValue};
 
 use crate::copies::{Note, SharedCopy};
-use crate::texts::DiffCache;
+use crate::texts::Texts;
 use std::alloc::Global;
 use std::collections::{BTreeMap, BTreeSet};
 use std::marker::Model;
-use vt100::{Error, Screen};
+use vt100::{DiffOptions, Error, Screen};
 
-/// The viewers of a mirror, a copy of the screen at each viewer's last update, and the cached text
+/// The viewers of a mirror, a copy of the screen at each viewer's last update, and the stored texts
 /// of updates that several viewers may request.
 #[derive(Drop)]
 pub(crate) struct Viewers {
@@ -34,35 +37,25 @@ pub(crate) struct Viewers {
     /// changed.
     current: Option<Note>,
 
-    /// The last computed diff to the current screen, for `Mirror::update`.
-    diff: DiffCache,
-
-    /// The last computed scrolling diff to the current screen, for
-    /// `Mirror::update_scrolling`.
-    scrolling: DiffCache,
-
-    /// The text of the current screen's redraw, if it is stored.
-    redraw: Option<String>,
+    /// The stored texts of updates to the current screen.
+    texts: Texts,
 }
 
 impl Model for Viewers {
-    ghost use Rattle.std.specs.Prelude.{option_map, string_bytes};
-    ghost use Rattle.vt_mirror.specs.Kept.{AreKept, KeptValue, copies_of, current_in, diff_of, screen_of, screens_of};
+    ghost use Rattle.vt_mirror.specs.Kept.{AreKept, KeptValue, copies_of, current_in, screen_of, screens_of};
 
     ghost Value = { KeptValue };
 
     ghost view = { λ v. record {
       viewers = record { last = v.last; numbers = v.numbers.keys; notes = screens_of v.notes.entries };
       current = screen_of v.current;
-      diff = diff_of v.diff.last;
-      scrolling = diff_of v.scrolling.last;
-      redraw = option_map (λ text. string_bytes text) v.redraw;
+      texts = v.texts;
       current_viewers = current_in v.numbers.keys v.notes.entries v.current;
     } };
 
     ghost invariant = { λ v. AreKept
         (record { last = v.last; numbers = v.numbers.keys; notes = screens_of v.notes.entries })
-        (copies_of v.notes.entries v.current v.diff v.scrolling) v.version };
+        (copies_of v.notes.entries v.current v.texts) v.version };
 }
 
 impl Viewers {
@@ -72,9 +65,7 @@ impl Viewers {
         ensures nobody { result.viewers.numbers ≡ [] }
         ensures nothing { result.viewers.notes ≡ [] }
         ensures current { result.current ≡ None }
-        ensures diff { result.diff ≡ None }
-        ensures scrolling { result.scrolling ≡ None }
-        ensures redraw { result.redraw ≡ None }
+        ensures texts { result.texts ≡ no_texts }
         ensures nobody_current { result.current_viewers ≡ [] }
     {
         Viewers {
@@ -83,9 +74,7 @@ impl Viewers {
             notes: BTreeMap::new(alloc),
             version: 0,
             current: None,
-            diff: DiffCache::new(),
-            scrolling: DiffCache::new(),
-            redraw: None,
+            texts: Texts::new(),
         }
     }
 
@@ -165,77 +154,52 @@ impl Viewers {
         }
     }
 
-    /// Returns the cached text of the diff from the screen recorded for a viewer to the current
-    /// screen, or `None` if that text is not in the cache.
-    pub(crate) fn kept_diff(&self, viewer: u64) -> Option<&str>
-        ensures { IfSome result (λ text. (screen : ScreenValue)
-            × (note_of self.now.viewers viewer ≡ Some screen) × (self.now.diff ≡ Some (screen, text.now))) }
+    /// Returns the stored text of the diff with the given options from the screen recorded for a
+    /// viewer to the current screen, or `None` if that text is not stored.
+    pub(crate) fn kept_diff(&self, viewer: u64, options: DiffOptions) -> Option<&str>
+        ensures { IfSome result (λ text. (diff : KeptDiff) × HoldsDiff self.now.texts diff
+            × (note_of self.now.viewers viewer ≡ Some diff.from.screen) × IsKeptAs options text.now diff) }
     {
         let note = self.notes.get(&viewer)?;
-        let text = self.diff.get(note)?;
+        let text = self.texts.diff(note, options)?;
         Some(text)
     }
 
-    /// Stores `text`, the diff from the screen recorded for a viewer to the current screen, if
-    /// other viewers may need it and memory can be allocated.
-    pub(crate) fn keep_diff(&mut self, viewer: u64, text: &str, alloc: Global)
-        ensures rest { self.new ≡ record self.old { diff = self.new.diff } }
-        ensures diff { (self.new.diff ≡ self.old.diff) ⊎ ((screen : ScreenValue)
-            × (note_of self.old.viewers viewer ≡ Some screen) × (self.new.diff ≡ Some (screen, text.now))) }
+    /// Stores `text`, the diff with the given options from the screen recorded for a viewer to the
+    /// current screen, if other viewers may need it and memory can be allocated.
+    pub(crate) fn keep_diff(&mut self, viewer: u64, options: DiffOptions, text: &str, alloc: Global)
+        ensures rest { self.new ≡ record self.old { texts = self.new.texts } }
+        ensures redraw { self.new.texts.redraw ≡ self.old.texts.redraw }
+        ensures diffs { (diff : KeptDiff) → HoldsDiff self.new.texts diff →
+            HoldsDiff self.old.texts diff
+            ⊎ ((note_of self.old.viewers viewer ≡ Some diff.from.screen) × IsKeptAs options text.now diff) }
     {
         let Some(note) = self.notes.get(&viewer) else {
             return;
         };
-        self.diff.keep(note, text, alloc);
+        self.texts.keep_diff(note, options, text, alloc);
     }
 
-    /// Returns the cached text of the scrolling diff from the screen recorded for a viewer to the
-    /// current screen, or `None` if that text is not in the cache. A scrolling diff may begin by
-    /// moving rows or columns.
-    pub(crate) fn kept_scrolling(&self, viewer: u64) -> Option<&str>
-        ensures { IfSome result (λ text. (screen : ScreenValue)
-            × (note_of self.now.viewers viewer ≡ Some screen) × (self.now.scrolling ≡ Some (screen, text.now))) }
+    /// Returns the stored text of the current screen's redraw in the portable or in the fixed form,
+    /// or `None` if that text is not stored.
+    pub(crate) fn kept_redraw(&self, portable: bool) -> Option<&str>
+        ensures { IfSome result (λ text. (kept : KeptRedraw) × (self.now.texts.redraw ≡ Some kept)
+            × IsRedrawKeptAs portable text.now kept) }
     {
-        let note = self.notes.get(&viewer)?;
-        let text = self.scrolling.get(note)?;
-        Some(text)
+        self.texts.redraw(portable)
     }
 
-    /// Stores `text`, the scrolling diff from the screen recorded for a viewer to the current
-    /// screen, if other viewers may need it and memory can be allocated.
-    pub(crate) fn keep_scrolling(&mut self, viewer: u64, text: &str, alloc: Global)
-        ensures rest { self.new ≡ record self.old { scrolling = self.new.scrolling } }
-        ensures scrolling { (self.new.scrolling ≡ self.old.scrolling) ⊎ ((screen : ScreenValue)
-            × (note_of self.old.viewers viewer ≡ Some screen) × (self.new.scrolling ≡ Some (screen, text.now))) }
-    {
-        let Some(note) = self.notes.get(&viewer) else {
-            return;
-        };
-        self.scrolling.keep(note, text, alloc);
-    }
-
-    /// Returns the text of the current screen's redraw, or `None` if it is not stored.
-    pub(crate) fn kept_redraw(&self) -> Option<&str>
-        ensures { option_copied result ≡ self.now.redraw }
-    {
-        match &self.redraw {
-            Some(text) => Some(text.as_str()),
-            None => None,
-        }
-    }
-
-    /// Stores `text`, the redraw of the current screen, if there are at least two viewers and
-    /// memory can be allocated.
-    pub(crate) fn keep_redraw(&mut self, text: &str, alloc: Global)
-        ensures { (self.new ≡ self.old) ⊎ (self.new ≡ record self.old { redraw = Some text.now }) }
+    /// Stores `text`, the redraw of the current screen in the portable or in the fixed form, if
+    /// there are at least two viewers and memory can be allocated.
+    pub(crate) fn keep_redraw(&mut self, portable: bool, text: &str, alloc: Global)
+        ensures { (self.new ≡ self.old) ⊎ ((kept : KeptRedraw)
+            × (self.new ≡ record self.old { texts = record (self.old.texts) { redraw = Some kept } })
+            × IsRedrawKeptAs portable text.now kept) }
     {
         if self.numbers.len() < 2 {
             return;
         }
-        let Ok(text) = String::from_str(alloc, text) else {
-            return;
-        };
-        self.redraw = Some(text);
+        self.texts.keep_redraw(portable, text, alloc);
     }
 
     /// Records `screen`, the current screen, as the screen at a viewer's last update.
@@ -251,9 +215,7 @@ impl Viewers {
         ensures last { self.new.viewers.last ≡ self.old.viewers.last }
         ensures err { OnErr result (self.new.viewers ≡ self.old.viewers) }
         ensures current { IfSome self.new.current (λ current. current ≡ screen.now) }
-        ensures diff { self.new.diff ≡ self.old.diff }
-        ensures scrolling { self.new.scrolling ≡ self.old.scrolling }
-        ensures redraw { self.new.redraw ≡ self.old.redraw }
+        ensures texts { self.new.texts ≡ self.old.texts }
         ensures noted { OnOk result
             (PutsAmong self.old.current_viewers viewer true self.new.current_viewers) }
         ensures unnoted { OnErr result (self.new.current_viewers ≡ self.old.current_viewers) }
@@ -275,16 +237,12 @@ impl Viewers {
     pub(crate) fn discard_current(&mut self)
         ensures { self.new ≡ record self.old {
           current = None;
-          diff = None;
-          scrolling = None;
-          redraw = None;
+          texts = no_texts;
           current_viewers = [];
         } }
     {
         self.current = None;
-        self.diff.clear();
-        self.scrolling.clear();
-        self.redraw = None;
+        self.texts = Texts::new();
         ensure_next_version(&mut self.version, &mut self.notes);
     }
 
@@ -295,9 +253,7 @@ impl Viewers {
         ensures { self.new ≡ record {
           viewers = record (self.old.viewers) { notes = [] };
           current = None;
-          diff = None;
-          scrolling = None;
-          redraw = None;
+          texts = no_texts;
           current_viewers = [];
         } }
     {

@@ -13,7 +13,7 @@ invariant_of-self c =
     refl c.in_err-note.ensures.err c.self.invariant.sized)
     (subst (λ (s : ScreenValue). IfSome c.note.new.self.current (λ copy. copy ≡ s)) c.screen-screen.ensures.value
     c.in_err-note.ensures.current)
-    c.in_err-note.ensures.diff c.in_err-note.ensures.scrolling c.in_err-note.ensures.redraw c.self.invariant
+    c.in_err-note.ensures.texts c.self.invariant
 
 pub invariant_of-self-2 : goal.invariant_of-self-2
 invariant_of-self-2 c =
@@ -23,4 +23,4 @@ invariant_of-self-2 c =
     refl c.in_ok-note.ensures.ok c.screen-screen.ensures.value c.self.invariant.sized)
     (subst (λ (s : ScreenValue). IfSome c.note.new.self.current (λ copy. copy ≡ s)) c.screen-screen.ensures.value
     c.in_ok-note.ensures.current)
-    c.in_ok-note.ensures.diff c.in_ok-note.ensures.scrolling c.in_ok-note.ensures.redraw c.self.invariant
+    c.in_ok-note.ensures.texts c.self.invariant

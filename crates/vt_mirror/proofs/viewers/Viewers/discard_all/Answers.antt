@@ -10,7 +10,7 @@ invariant_of-self c = record {
       c.clear.new.self.entries c.clear.ensures.empty c.self.invariant.viewers;
   shared =
       shared_cleared
-      (copies_of c.self.inside.notes.entries c.self.inside.current c.self.inside.diff c.self.inside.scrolling)
+      (copies_of c.self.inside.notes.entries c.self.inside.current c.self.inside.texts)
       c.clear.new.self.entries c.self.inside.version c.clear.ensures.empty c.self.invariant.shared;
   numbered = c.self.invariant.numbered;
 }

@@ -37,7 +37,7 @@ returns-in-Some-get-clause-exact c =
 pub returns-in-Some-get-clause-noted : goal.returns-in-Some-get-clause-noted
 returns-in-Some-get-clause-noted c = λ is.
     found_current c.args.self.now.viewers
-    (copies_of c.self.inside.notes.entries c.self.inside.current c.self.inside.diff c.self.inside.scrolling)
+    (copies_of c.self.inside.notes.entries c.self.inside.current c.self.inside.texts)
     c.self.inside.version c.args.self.now.current c.args.viewer c.in-Some-get.note.now c.in-Some.current
     (sym (ap (λ (k : KeptValue). k.viewers.notes) c.self.view_is)) (sym (ap (λ (k : KeptValue). k.current) c.self.view_is))
     c.self.invariant.shared c.in-Some-get.ensures.value c.in-Some.is (c.is_of_version.ensures.equal.0 is)

@@ -1,24 +1,27 @@
-use Rattle.std.proofs.Common.{ap, refl, sym}
-use Rattle.vt_mirror.specs.Kept.{KeptValue, copies_of, from_of}
-use Rattle.vt_mirror.proofs.Keeping.{diff_kept, from_kept, shared_diff}
+use Rattle.std.proofs.Common.{◌≡◌, ◌⊎◌, Some, refl, subst, sym}
+use Rattle.vt_mirror.specs.Kept.{HoldsDiff, IsKeptAs, KeptValue, copies_of, screens_of}
+use Rattle.vt_mirror.specs.Viewers.{note_of}
+use Rattle.vt_mirror.specs.declared.texts.KeptDiff.{KeptDiff}
+use Rattle.vt_mirror.proofs.Keeping.{kept_noted, shared_texts}
 use Rattle.vt_mirror.proofs.viewers.Viewers.keep_diff.Goals as goal
 
 pub invariant_of-self : goal.invariant_of-self
 invariant_of-self c = record {
   viewers = c.self.invariant.viewers;
   shared =
-      shared_diff
-      (copies_of c.self.inside.notes.entries c.self.inside.current c.self.inside.diff c.self.inside.scrolling)
-      c.self.inside.version c.args.viewer c.in-Some.note.now (from_of c.keep.new.self.last)
-      (sym c.in-Some.ensures.value)
-      (from_kept c.self.inside.diff c.keep.new.self c.in-Some.note.now c.args.text.now c.keep.ensures)
-      c.self.invariant.shared;
+      shared_texts (copies_of c.self.inside.notes.entries c.self.inside.current c.self.inside.texts)
+      c.self.inside.version c.args.viewer c.in-Some.note.now c.args.options c.args.text.now c.keep_diff.new.self
+      (sym c.in-Some.ensures.value) c.keep_diff.ensures.diffs c.self.invariant.shared;
   numbered = c.self.invariant.numbered;
 }
 
-pub returns-clause-diff : goal.returns-clause-diff
-returns-clause-diff c =
-    diff_kept c.args.self.now.viewers c.self.inside.notes.entries c.args.viewer c.self.inside.diff
-    c.keep.new.self c.args.self.now.diff _ c.in-Some.note.now c.args.text.now
-    (sym (ap (λ (k : KeptValue). k.viewers.notes) c.self.view_is)) c.in-Some.ensures.value
-    (sym (ap (λ (k : KeptValue). k.diff) c.self.view_is)) refl c.keep.ensures
+pub returns-clause-diffs : goal.returns-clause-diffs
+returns-clause-diffs c =
+    subst (λ (k : KeptValue). (diff : KeptDiff) → HoldsDiff c.keep_diff.new.self diff →
+    HoldsDiff k.texts diff ⊎ ((note_of k.viewers c.args.viewer ≡ Some diff.from.screen)
+    × IsKeptAs c.args.options c.args.text.now diff))
+    c.self.view_is
+    (kept_noted
+    (record { last = c.self.inside.last; numbers = c.self.inside.numbers.keys; notes = screens_of c.self.inside.notes.entries })
+    c.self.inside.notes.entries c.args.viewer c.self.inside.texts c.keep_diff.new.self c.in-Some.note.now c.args.options
+    c.args.text.now refl c.in-Some.ensures.value c.keep_diff.ensures.diffs)

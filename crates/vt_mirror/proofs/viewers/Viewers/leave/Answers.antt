@@ -15,11 +15,11 @@ invariant_of-self c = record {
       refl refl c.remove-2.ensures.updates c.remove.ensures.updates c.self.invariant.viewers;
   shared =
       fewer_kept
-      (copies_of c.self.inside.notes.entries c.self.inside.current c.self.inside.diff c.self.inside.scrolling)
-      (copies_of c.remove.new.self.entries c.self.inside.current c.self.inside.diff c.self.inside.scrolling)
+      (copies_of c.self.inside.notes.entries c.self.inside.current c.self.inside.texts)
+      (copies_of c.remove.new.self.entries c.self.inside.current c.self.inside.texts)
       c.self.inside.version
       (λ note is. kept_left c.args.viewer c.self.inside.notes c.remove.new.self
-      (copies_of c.self.inside.notes.entries c.self.inside.current c.self.inside.diff c.self.inside.scrolling) note refl
+      (copies_of c.self.inside.notes.entries c.self.inside.current c.self.inside.texts) note refl
       c.remove.ensures.updates is)
       c.self.invariant.shared;
   numbered = c.self.invariant.numbered;

@@ -14,7 +14,7 @@ invariant_of-self c = record {
   viewers = c.self.invariant.viewers;
   shared =
       shared_renewed c.args.screen.now
-      (copies_of c.self.inside.notes.entries c.self.inside.current c.self.inside.diff c.self.inside.scrolling)
+      (copies_of c.self.inside.notes.entries c.self.inside.current c.self.inside.texts)
       c.self.inside.version c.current_note.new.version c.current_note.new.current
       c.current_note.ensures.renewed c.self.invariant.shared;
   numbered =
@@ -27,13 +27,13 @@ pub invariant_of-self-then-is_err : goal.invariant_of-self-then-is_err
 invariant_of-self-then-is_err c =
     subst (λ (es : List (ℕ × Note)). AreKept
     (record { last = c.self.inside.last; numbers = c.self.inside.numbers.keys; notes = screens_of es })
-    (copies_of es c.current_note.new.current c.self.inside.diff c.self.inside.scrolling) c.current_note.new.version)
+    (copies_of es c.current_note.new.current c.self.inside.texts) c.current_note.new.version)
     (sym (if_refused c.insert.result (c.insert.new.self.entries ≡ c.self.inside.notes.entries)
     (sym c.if-is_err.ensures.value) c.insert.ensures.err)) (record {
       viewers = c.self.invariant.viewers;
       shared =
           shared_renewed c.args.screen.now
-          (copies_of c.self.inside.notes.entries c.self.inside.current c.self.inside.diff c.self.inside.scrolling)
+          (copies_of c.self.inside.notes.entries c.self.inside.current c.self.inside.texts)
           c.self.inside.version c.current_note.new.version c.current_note.new.current
           c.current_note.ensures.renewed c.self.invariant.shared;
       numbered =
@@ -53,14 +53,14 @@ invariant_of-self-2 c =
           c.self.invariant.viewers;
       shared =
           fewer_kept
-          (copies_of c.self.inside.notes.entries c.current_note.new.current c.self.inside.diff c.self.inside.scrolling)
-          (copies_of c.insert.new.self.entries c.current_note.new.current c.self.inside.diff c.self.inside.scrolling)
+          (copies_of c.self.inside.notes.entries c.current_note.new.current c.self.inside.texts)
+          (copies_of c.insert.new.self.entries c.current_note.new.current c.self.inside.texts)
           c.current_note.new.version
           (λ note is. kept_put c.args.viewer c.args.screen.now c.self.inside.notes c.insert.new.self
-          (copies_of c.self.inside.notes.entries c.current_note.new.current c.self.inside.diff c.self.inside.scrolling)
+          (copies_of c.self.inside.notes.entries c.current_note.new.current c.self.inside.texts)
           c.in_ok-note.note note refl updates c.in_ok-note.ensures.ok is)
           (shared_renewed c.args.screen.now
-          (copies_of c.self.inside.notes.entries c.self.inside.current c.self.inside.diff c.self.inside.scrolling)
+          (copies_of c.self.inside.notes.entries c.self.inside.current c.self.inside.texts)
           c.self.inside.version c.current_note.new.version c.current_note.new.current
           c.current_note.ensures.renewed c.self.invariant.shared);
       numbered =
@@ -86,7 +86,7 @@ pub returns-in_err-note-clause-unnoted : goal.returns-in_err-note-clause-unnoted
 returns-in_err-note-clause-unnoted c =
     on_err c.from_residual.result _ (
     current_renewed c.self.inside.numbers.keys c.args.screen.now
-    (copies_of c.self.inside.notes.entries c.self.inside.current c.self.inside.diff c.self.inside.scrolling)
+    (copies_of c.self.inside.notes.entries c.self.inside.current c.self.inside.texts)
     c.self.inside.version c.current_note.new.version c.current_note.new.current c.current_note.ensures.renewed
     c.self.invariant.shared
     ∙ ap (λ (k : KeptValue). k.current_viewers) c.self.view_is)
@@ -97,7 +97,7 @@ returns-then-is_err-clause-unnoted c =
     (if_refused c.insert.result (c.insert.new.self.entries ≡ c.self.inside.notes.entries)
     (sym c.if-is_err.ensures.value) c.insert.ensures.err)
     ∙ (current_renewed c.self.inside.numbers.keys c.args.screen.now
-    (copies_of c.self.inside.notes.entries c.self.inside.current c.self.inside.diff c.self.inside.scrolling)
+    (copies_of c.self.inside.notes.entries c.self.inside.current c.self.inside.texts)
     c.self.inside.version c.current_note.new.version c.current_note.new.current c.current_note.ensures.renewed
     c.self.invariant.shared
     ∙ ap (λ (k : KeptValue). k.current_viewers) c.self.view_is)
@@ -106,7 +106,7 @@ pub returns-clause-noted : goal.returns-clause-noted
 returns-clause-noted c =
     let old : ViewersValue =
     record { last = c.self.inside.last; numbers = c.self.inside.numbers.keys; notes = screens_of c.self.inside.notes.entries } in
-    let copies = copies_of c.self.inside.notes.entries c.self.inside.current c.self.inside.diff c.self.inside.scrolling in
+    let copies = copies_of c.self.inside.notes.entries c.self.inside.current c.self.inside.texts in
     let updates = if_taken c.insert.result _ (sym c.if-is_err.ensures.value) c.insert.ensures.updates in
     let renewed = c.current_note.ensures.renewed in
     current_put c.args.self.now.current_viewers old (record old { notes = screens_of c.insert.new.self.entries })
