@@ -457,6 +457,13 @@ vt100_status vt100_contents_formatted_basic(vt100_handle *handle, size_t *len);
 vt100_status vt100_state_formatted(vt100_handle *handle, size_t *len);
 
 /*
+ * Generates the output of vt100_contents_formatted_with, followed by that of
+ * vt100_input_mode_formatted. The option VT100_PORTABLE changes only the redraw, not the sequences
+ * that set the input modes. Other bits are ignored.
+ */
+vt100_status vt100_state_formatted_with(vt100_handle *handle, uint8_t options, size_t *len);
+
+/*
  * Generates the part of a redraw that moves the cursor and shows or hides it, for a plain terminal
  * of this size that displays the rows of this screen and has default attributes. If a wrap is
  * pending, this part may draw the end of a row again.
@@ -530,10 +537,10 @@ vt100_status vt100_contents_diff_scrolling(vt100_handle *handle, vt100_handle *p
 
 /*
  * Generates a diff with options, which is never longer than that of vt100_contents_diff or, with
- * VT100_PORTABLE, than its portable form. Without VT100_DIFF_REPEAT and VT100_DIFF_REPEAT_ASCII, it
- * is the diff of vt100_contents_diff or, with VT100_DIFF_SCROLL, of vt100_contents_diff_scrolling. A
- * portable diff moves no rows or columns: with VT100_DIFF_SCROLL, it only moves the cursor with
- * shorter sequences, but not with HT.
+ * VT100_DIFF_SCROLL, than that of vt100_contents_formatted; with VT100_PORTABLE, than the portable
+ * forms of these. Without VT100_DIFF_REPEAT and VT100_DIFF_REPEAT_ASCII, it is the diff of
+ * vt100_contents_diff or, with VT100_DIFF_SCROLL, of vt100_contents_diff_scrolling, or its portable
+ * form, which moves no columns, and moves the cursor without HT.
  * Statuses: as for vt100_contents_diff.
  */
 vt100_status vt100_contents_diff_with(vt100_handle *handle, vt100_handle *prev, uint8_t options,
@@ -544,6 +551,15 @@ vt100_status vt100_contents_diff_with(vt100_handle *handle, vt100_handle *prev, 
  * Statuses: as for vt100_contents_diff.
  */
 vt100_status vt100_state_diff(vt100_handle *handle, vt100_handle *prev, size_t *len);
+
+/*
+ * Generates the output of vt100_contents_diff_with, followed by that of vt100_input_mode_diff. The
+ * options are those of vt100_contents_diff_with; they change only the part that turns the display
+ * of `prev` into that of this screen, not the sequences that set the input modes.
+ * Statuses: as for vt100_contents_diff.
+ */
+vt100_status vt100_state_diff_with(vt100_handle *handle, vt100_handle *prev, uint8_t options,
+                                   size_t *len);
 
 /*
  * Generates the sequences that turn the input modes of `prev` into those of this screen. The
@@ -733,8 +749,9 @@ vt100_status vt100_update_scrolling(vt100_handle *mirror, uint64_t viewer, uint1
 
 /*
  * Works like vt100_update, but a diff has the given options (see VT100_DIFF_SCROLL), and is never
- * longer than that of vt100_update. VT100_PORTABLE is ignored. With VT100_DIFF_SCROLL, the update may be a redraw, as with
- * vt100_update_scrolling.
+ * longer than that of vt100_update or, with VT100_PORTABLE, than its portable form. With
+ * VT100_PORTABLE, a redraw is portable, too. With VT100_DIFF_SCROLL, the update may be a redraw, as
+ * with vt100_update_scrolling.
  */
 vt100_status vt100_update_with(vt100_handle *mirror, uint64_t viewer, uint8_t options,
                                uint16_t *rows, uint16_t *cols, size_t *len);

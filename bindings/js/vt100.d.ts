@@ -187,8 +187,7 @@ export interface RedrawOptions {
   portable?: boolean;
 }
 
-/** Updates of a mirror ignore `portable`. A portable diff moves no rows or columns: with `scroll`, it only moves the
-    cursor with shorter sequences. */
+/** A portable diff moves no columns; with `scroll`, it may move rows. */
 export interface DiffOptions extends RedrawOptions {
   /** Whether a diff may begin by moving rows or columns. */
   scroll?: boolean;
@@ -268,6 +267,8 @@ export interface Screen extends Handle, Properties {
   contentsFormattedBasic(): string;
   /** Returns a redraw followed by the sequences that set the input modes. */
   stateFormatted(): string;
+  /** Returns contentsFormattedWith followed by inputModeFormatted. */
+  stateFormattedWith(options?: RedrawOptions): string;
   /** Returns the part of a redraw that moves the cursor and shows or hides it. */
   cursorStateFormatted(): string;
   /** Returns the part of a redraw that sets the attributes of the next character. */
@@ -290,6 +291,8 @@ export interface Screen extends Handle, Properties {
   contentsDiffWith(prev: Screen, options?: DiffOptions): string;
   /** Returns contentsDiff followed by inputModeDiff. */
   stateDiff(prev: Screen): string;
+  /** Returns contentsDiffWith followed by inputModeDiff. */
+  stateDiffWith(prev: Screen, options?: DiffOptions): string;
   /** Returns the sequences that turn the input modes of `prev` into those of this screen. Their sizes may differ. */
   inputModeDiff(prev: Screen): string;
   /** Returns the output that turns each row of `prev` into the corresponding row of this screen. */
@@ -338,6 +341,8 @@ export interface Mirror extends Handle {
   /** Returns an update whose diff may begin by moving rows or columns, and is never longer than that of update. If the
       screen of the viewer's last update was not steady, the update is a redraw, which corrects the viewer's display. */
   updateScrolling(viewer: bigint): Update;
+  /** Returns an update with options, which may change from update to update. With `portable`, a redraw is portable, too.
+      With `scroll`, the update may be a redraw, as with updateScrolling. */
   updateWith(viewer: bigint, options?: DiffOptions): Update;
   /** Returns whether the viewer has had an update since the last call to process and the last resize. */
   isCurrent(viewer: bigint): boolean;

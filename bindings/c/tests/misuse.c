@@ -75,6 +75,9 @@ static vt100_status portable(vt100_handle *h) {
 static vt100_status reset(vt100_handle *h) { return vt100_contents_formatted_reset(h, &len); }
 static vt100_status basic(vt100_handle *h) { return vt100_contents_formatted_basic(h, &len); }
 static vt100_status all(vt100_handle *h) { return vt100_state_formatted(h, &len); }
+static vt100_status all_portable(vt100_handle *h) {
+    return vt100_state_formatted_with(h, VT100_PORTABLE, &len);
+}
 static vt100_status cursor(vt100_handle *h) { return vt100_cursor_state_formatted(h, &len); }
 static vt100_status attributes(vt100_handle *h) { return vt100_attributes_formatted(h, &len); }
 static vt100_status input(vt100_handle *h) { return vt100_input_mode_formatted(h, &len); }
@@ -136,6 +139,7 @@ static const struct {
     {"contents_formatted", formatted, P | S}, {"contents_formatted_with", portable, P | S},
     {"contents_formatted_reset", reset, P | S},
     {"contents_formatted_basic", basic, P | S}, {"state_formatted", all, P | S},
+    {"state_formatted_with", all_portable, P | S},
     {"cursor_state_formatted", cursor, P | S}, {"attributes_formatted", attributes, P | S},
     {"input_mode_formatted", input, P | S}, {"rows", plain_rows, P | S},
     {"rows_formatted", drawn_rows, P | S}, {"events", events, P},
@@ -186,6 +190,9 @@ static vt100_status diff_with(vt100_handle *h, vt100_handle *o) {
 static vt100_status state_diff(vt100_handle *h, vt100_handle *o) {
     return vt100_state_diff(h, o, &len);
 }
+static vt100_status state_diff_with(vt100_handle *h, vt100_handle *o) {
+    return vt100_state_diff_with(h, o, VT100_DIFF_REPEAT, &len);
+}
 static vt100_status input_diff(vt100_handle *h, vt100_handle *o) {
     return vt100_input_mode_diff(h, o, &len);
 }
@@ -204,7 +211,8 @@ static const struct {
     {"contents_diff", diff, P | S, P | S, 1},
     {"contents_diff_scrolling", scrolling, P | S, P | S, 1},
     {"contents_diff_with", diff_with, P | S, P | S, 1},
-    {"state_diff", state_diff, P | S, P | S, 1}, {"rows_diff", rows_diff, P | S, P | S, 1},
+    {"state_diff", state_diff, P | S, P | S, 1},
+    {"state_diff_with", state_diff_with, P | S, P | S, 1}, {"rows_diff", rows_diff, P | S, P | S, 1},
     {"input_mode_diff", input_diff, P | S, P | S, 0}, {"swap", vt100_swap, P | S, P | S, 0},
     {"capture_screen", capture, P | S, C, 0},
 };

@@ -256,6 +256,27 @@ static void repeated_ascii(void) {
     vt100_free(&parser);
 }
 
+/* A portable update, redraw or diff, resets the attributes between dim and bold. */
+static void portable_updates(void) {
+    vt100_handle mirror = VT100_EMPTY;
+    uint64_t first, second;
+    uint16_t rows, cols;
+    size_t len;
+    must(vt100_mirror_new(2, 20, 0, &mirror) == VT100_OK);
+    must(vt100_join(&mirror, &first) == VT100_OK && vt100_join(&mirror, &second) == VT100_OK);
+    read_into(&mirror, "\x1b[2ma\x1b[22;1mb");
+    must(vt100_update_with(&mirror, first, VT100_PORTABLE, &rows, &cols, &len) == VT100_OK);
+    must(rows == 2 && is_text(&mirror, len, "\x1b[?25h\x1b[m\x1b[H\x1b[J\x1b[2ma\x1b[m\x1b[1mb"));
+    must(vt100_update_with(&mirror, second, 0xf0, &rows, &cols, &len) == VT100_OK);
+    must(rows == 2 && is_text(&mirror, len, "\x1b[?25h\x1b[m\x1b[H\x1b[J\x1b[2ma\x1b[1mb"));
+    read_into(&mirror, "\x1b[22;2mc");
+    must(vt100_update(&mirror, first, &rows, &cols, &len) == VT100_OK);
+    must(rows == 0 && is_text(&mirror, len, "\x1b[2mc"));
+    must(vt100_update_with(&mirror, second, VT100_PORTABLE, &rows, &cols, &len) == VT100_OK);
+    must(rows == 0 && is_text(&mirror, len, "\x1b[m\x1b[2mc"));
+    vt100_free(&mirror);
+}
+
 /* Portable output resets the attributes between dim and bold, and moves to an absolute position. */
 static void portable(void) {
     static const struct {
@@ -285,6 +306,40 @@ static void portable(void) {
         vt100_free(&before);
         vt100_free(&parser);
     }
+}
+
+/* A state with options is a redraw or a diff with options, followed by the sequences for modes. */
+static void state_with_options(void) {
+    static const struct {
+        uint8_t options;
+        const char *text;
+    } diffs[] = {
+        {0, "----------\r\n\x1b[2ma\x1b[1mb\x1b=\x1b[?2004h"},
+        {VT100_DIFF_REPEAT, "-\x1b[9b\r\n\x1b[2ma\x1b[1mb\x1b=\x1b[?2004h"},
+        {VT100_PORTABLE, "----------\r\n\x1b[2ma\x1b[m\x1b[1mb\x1b=\x1b[?2004h"},
+        {VT100_PORTABLE | VT100_DIFF_REPEAT_ASCII,
+         "-\x1b[9b\r\n\x1b[2ma\x1b[m\x1b[1mb\x1b=\x1b[?2004h"},
+    };
+    vt100_handle parser = VT100_EMPTY, before = VT100_EMPTY;
+    size_t len;
+    must(vt100_parser_new(2, 20, 0, 0, &parser) == VT100_OK);
+    must(vt100_save(&parser, &before) == VT100_OK);
+    must(vt100_state_diff_with(&parser, &before, 0xff, &len) == VT100_OK && len == 0);
+    read_into(&parser, "\x1b=\x1b[?2004h----------\r\n\x1b[2ma\x1b[22;1mb");
+    for (size_t i = 0; i < sizeof diffs / sizeof *diffs; i++) {
+        must(vt100_state_diff_with(&parser, &before, diffs[i].options, &len) == VT100_OK);
+        must(is_text(&parser, len, diffs[i].text));
+    }
+    must(vt100_state_formatted_with(&parser, VT100_PORTABLE, &len) == VT100_OK);
+    must(is_text(&parser, len,
+                 "\x1b[?25h\x1b[m\x1b[H\x1b[J----------\r\n\x1b[2ma\x1b[m\x1b[1mb"
+                 "\x1b=\x1b[?1l\x1b[?2004h"));
+    must(vt100_state_formatted_with(&parser, 0xf7, &len) == VT100_OK);
+    must(is_text(&parser, len,
+                 "\x1b[?25h\x1b[m\x1b[H\x1b[J----------\r\n\x1b[2ma\x1b[1mb"
+                 "\x1b=\x1b[?1l\x1b[?2004h"));
+    vt100_free(&before);
+    vt100_free(&parser);
 }
 
 /*
@@ -351,6 +406,8 @@ int main(void) {
     repeated();
     repeated_ascii();
     portable();
+    state_with_options();
+    portable_updates();
     pending();
     terminals();
     version();

@@ -191,6 +191,10 @@ export class Screen extends Handle {
     return this.#textBy("vt100_state_formatted");
   }
 
+  stateFormattedWith(options) {
+    return this.#textBy("vt100_state_formatted_with", redrawOptions(options));
+  }
+
   cursorStateFormatted() {
     return this.#textBy("vt100_cursor_state_formatted");
   }
@@ -222,6 +226,11 @@ export class Screen extends Handle {
 
   stateDiff(prev) {
     return this.#diff(prev, (other) => this.#textBy("vt100_state_diff", other));
+  }
+
+  stateDiffWith(prev, options) {
+    const bits = diffOptions(options);
+    return this.#diff(prev, (other) => this.#textBy("vt100_state_diff_with", other, bits));
   }
 
   inputModeDiff(prev) {

@@ -31,6 +31,7 @@ test("sizes and positions out of range", () => {
     () => parser.contentsBetween(0, 11, 1, 0),
     () => parser.contentsBetween(0, 0, 0, -1),
     () => parser.contentsDiffWith(parser, { repeat: 1 }),
+    () => parser.stateDiffWith(parser, { repeat: 1 }),
   ];
   for (const call of wrong) assert.throws(call, RangeError, call.toString());
   assert.equal(parser.contents(), "text");
@@ -65,7 +66,8 @@ test("arguments of the wrong type", () => {
 test("screens of different sizes", () => {
   const parser = screenOf("text");
   const other = screenOf("", 3, 11);
-  for (const name of ["contentsDiff", "contentsDiffScrolling", "contentsDiffWith", "stateDiff", "rowsDiff"]) {
+  const diffs = ["contentsDiff", "contentsDiffScrolling", "contentsDiffWith", "stateDiff", "stateDiffWith", "rowsDiff"];
+  for (const name of diffs) {
     assert.throws(() => parser[name](other), hasStatus(5), name);
   }
   assert.equal(parser.inputModeDiff(other), "");

@@ -24,6 +24,18 @@ test("updates keep a viewer's terminal", () => {
   assert.deepEqual(mirror.updateWith(viewer, { scroll: true, repeat: Repeat.ANY }), { text: "", size: null });
 });
 
+test("portable updates", () => {
+  const mirror = new Mirror(2, 10);
+  mirror.process("\x1b[2ma\x1b[22;1mb");
+  const first = mirror.join(), second = mirror.join();
+  const clear = "\x1b[?25h\x1b[m\x1b[H\x1b[J";
+  assert.equal(mirror.updateWith(first, { portable: true }).text, clear + "\x1b[2ma\x1b[m\x1b[1mb");
+  assert.equal(mirror.updateWith(second).text, clear + "\x1b[2ma\x1b[1mb");
+  mirror.process("\x1b[22;2mc");
+  assert.deepEqual(mirror.updateWith(first, { portable: true }), { text: "\x1b[m\x1b[2mc", size: null });
+  assert.deepEqual(mirror.update(second), { text: "\x1b[2mc", size: null });
+});
+
 test("viewers join, and the mirror is resized", () => {
   const mirror = new Mirror(2, 10, { scrollback: 5 });
   const first = mirror.join();

@@ -170,7 +170,7 @@ test("redraws and diffs keep a second terminal", () => {
 
 test("a diff from the screen itself is empty", () => {
   const parser = screenOf("text\x1b[?1h");
-  const diffs = ["contentsDiff", "contentsDiffScrolling", "contentsDiffWith", "stateDiff", "inputModeDiff"];
+  const diffs = ["contentsDiff", "contentsDiffScrolling", "contentsDiffWith", "stateDiff", "stateDiffWith", "inputModeDiff"];
   for (const name of diffs) assert.equal(parser[name](parser), "", name);
   assert.deepEqual(parser.rowsDiff(parser), ["", "", ""]);
 });
@@ -211,6 +211,21 @@ test("portable output", () => {
     assert.equal(parser.contentsDiffWith(before), text);
     assert.equal(parser.contentsDiffWith(before, { portable: true }), portable);
   }
+});
+
+test("states have options and modes", () => {
+  const parser = screenOf("", 2, 20);
+  const before = parser.save();
+  parser.process("\x1b=\x1b[?2004h----------\r\n\x1b[2ma\x1b[22;1mb");
+  const dimThenBold = "\x1b[2ma\x1b[m\x1b[1mb";
+  const modes = "\x1b=\x1b[?2004h";
+  assert.equal(parser.stateDiffWith(before), parser.stateDiff(before));
+  assert.equal(parser.stateDiffWith(before, { portable: true }), `----------\r\n${dimThenBold}${modes}`);
+  const options = { repeat: Repeat.ASCII, portable: true };
+  assert.equal(parser.stateDiffWith(before, options), `-\x1b[9b\r\n${dimThenBold}${modes}`);
+  const redraw = `\x1b[?25h\x1b[m\x1b[H\x1b[J----------\r\n${dimThenBold}\x1b=\x1b[?1l\x1b[?2004h`;
+  assert.equal(parser.stateFormattedWith({ portable: true }), redraw);
+  assert.equal(parser.stateFormattedWith(), parser.stateFormatted());
 });
 
 test("parts of a redraw", () => {

@@ -22,6 +22,7 @@ const cell: Cell | undefined = parser.cell(0, 0);
 const color: Color = parser.fgcolor;
 const saved: Screen = parser.save();
 const diff: string = parser.contentsDiffWith(saved, { scroll: true, repeat: Repeat.ANY });
+const state: string = parser.stateFormattedWith({ portable: true }) + parser.stateDiffWith(saved, { portable: true });
 const isBar: boolean = parser.cursorStyle === CursorStyle.STEADY_VERTICAL_BAR;
 const isScreen: boolean = saved instanceof Screen && saved instanceof vt100.Screen;
 for (const [row, records] of parser.dirty()) new vt100.Cell(records, 40 * row);
@@ -35,7 +36,7 @@ const typed: string = (keyText(key, parser) ?? "") + pasteText("text", parser.st
 const press = { type: "mousedown", button: 0, buttons: 1, shiftKey: false, altKey: false, ctrlKey: false };
 const report: Uint8Array | null = mouseBytes(press, parser.cursor, parser.state);
 saved[Symbol.dispose]();
-console.log(cell?.text, last?.text, whole.length, color, diff, isBar, isScreen, text, size?.rows, typed, report);
+console.log(cell?.text, last?.text, whole.length, color, diff, state, isBar, isScreen, text, size?.rows, typed, report);
 
 // @ts-expect-error
 parser.process(7);
@@ -47,6 +48,8 @@ new vt100.Parser("24");
 new vt100.Screen();
 // @ts-expect-error
 parser.contentsDiffWith(saved, { repeat: 3 });
+// @ts-expect-error
+parser.stateDiffWith(saved, { portable: 1 });
 // @ts-expect-error
 cell.text;
 // @ts-expect-error

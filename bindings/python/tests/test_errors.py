@@ -110,6 +110,8 @@ class Integers(unittest.TestCase):
             with self.assertRaisesRegex(TypeError, "repeat must be a Repeat"):
                 self.parser.contents_diff_with(before, repeat=wrong)
             with self.assertRaisesRegex(TypeError, "repeat must be a Repeat"):
+                self.parser.state_diff_with(before, repeat=wrong)
+            with self.assertRaisesRegex(TypeError, "repeat must be a Repeat"):
                 mirror.update_with(viewer, repeat=wrong)
 
     def test_messages_name_the_argument(self):
@@ -228,6 +230,7 @@ class Statuses(unittest.TestCase):
             parser.contents_diff_scrolling,
             parser.contents_diff_with,
             parser.state_diff,
+            parser.state_diff_with,
             parser.rows_diff,
         ):
             with self.assertRaisesRegex(vt100.Error, "different sizes"):

@@ -35,6 +35,21 @@ class Viewers(unittest.TestCase):
         self.assertEqual(mirror.update_with(viewer, repeat=repeat), vt100.Update("\r\n────"))
         self.assertEqual(mirror.update_with(viewer, scroll=True), vt100.Update(""))
 
+    def test_updates_are_portable_if_the_options_say_so(self):
+        mirror = vt100.Mirror(2, 20)
+        mirror.process(b"\x1b[2ma\x1b[22;1mb")
+        first, second = mirror.join(), mirror.join()
+        clear = "\x1b[?25h\x1b[m\x1b[H\x1b[J"
+        self.assertEqual(
+            mirror.update_with(first, portable=True).text, clear + "\x1b[2ma\x1b[m\x1b[1mb"
+        )
+        self.assertEqual(mirror.update_with(second).text, clear + "\x1b[2ma\x1b[1mb")
+        mirror.process(b"\x1b[22;2mc")
+        self.assertEqual(
+            mirror.update_with(first, portable=True), vt100.Update("\x1b[m\x1b[2mc")
+        )
+        self.assertEqual(mirror.update(second), vt100.Update("\x1b[2mc"))
+
     def test_a_viewer_may_join_late(self):
         mirror = vt100.Mirror(2, 10)
         first = mirror.join()

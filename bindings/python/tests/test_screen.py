@@ -280,6 +280,31 @@ class Texts(unittest.TestCase):
             self.assertEqual(parser.contents_diff_with(before), text)
             self.assertEqual(parser.contents_diff_with(before, portable=True), portable)
 
+    def test_states_have_options_and_modes(self):
+        screen = screen_of(b"", 2, 20)
+        before = screen.save()
+        self.assertEqual(screen.state_diff_with(before, scroll=True, portable=True), "")
+        screen.process(b"\x1b=\x1b[?2004h----------\r\n\x1b[2ma\x1b[22;1mb")
+        dim_then_bold, modes = "\x1b[2ma\x1b[m\x1b[1mb", "\x1b=\x1b[?2004h"
+        self.assertEqual(screen.state_diff_with(before), screen.state_diff(before))
+        self.assertEqual(
+            screen.state_diff_with(before, portable=True),
+            f"----------\r\n{dim_then_bold}{modes}",
+        )
+        self.assertEqual(
+            screen.state_diff_with(before, repeat=vt100.Repeat.ASCII, portable=True),
+            f"-\x1b[9b\r\n{dim_then_bold}{modes}",
+        )
+        clear = "\x1b[?25h\x1b[m\x1b[H\x1b[J"
+        self.assertEqual(
+            screen.state_formatted(portable=True),
+            f"{clear}----------\r\n{dim_then_bold}\x1b=\x1b[?1l\x1b[?2004h",
+        )
+        self.assertEqual(
+            screen.state_formatted(),
+            f"{clear}----------\r\n\x1b[2ma\x1b[1mb\x1b=\x1b[?1l\x1b[?2004h",
+        )
+
     def test_the_whole_state_is_drawn(self):
         modes = b"\x1b[?1h\x1b=\x1b[?2004h\x1b[?1002h\x1b[?1006h\x1b[5 q"
         screen = screen_of(modes + b"\x1b[1;31mab\x1b[2;3H")

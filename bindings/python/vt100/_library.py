@@ -143,7 +143,6 @@ def _arguments() -> Dict[str, List[Any]]:
         "contents",
         "contents_formatted_basic",
         "contents_formatted_reset",
-        "state_formatted",
         "cursor_state_formatted",
         "attributes_formatted",
         "input_mode_formatted",
@@ -151,8 +150,10 @@ def _arguments() -> Dict[str, List[Any]]:
         arguments[name] = [handle, length]
     for name in ("contents_diff", "contents_diff_scrolling", "state_diff", "input_mode_diff"):
         arguments[name] = [handle, handle, length]
-    arguments["contents_formatted_with"] = [handle, ctypes.c_uint8, length]
-    arguments["contents_diff_with"] = [handle, handle, ctypes.c_uint8, length]
+    for name in ("contents_formatted_with", "state_formatted_with"):
+        arguments[name] = [handle, ctypes.c_uint8, length]
+    for name in ("contents_diff_with", "state_diff_with"):
+        arguments[name] = [handle, handle, ctypes.c_uint8, length]
     for name in ("update", "update_scrolling"):
         arguments[name] = [handle, u64, side, side, length]
     arguments["update_with"] = [handle, u64, ctypes.c_uint8, side, side, length]

@@ -81,14 +81,22 @@ class Mirror(Object):
         return self._update(library.vt100_update_scrolling, viewer)
 
     def update_with(
-        self, viewer: SupportsIndex, *, scroll: bool = False, repeat: Repeat = Repeat.NEVER
+        self,
+        viewer: SupportsIndex,
+        *,
+        scroll: bool = False,
+        repeat: Repeat = Repeat.NEVER,
+        portable: bool = False,
     ) -> Update:
-        """Returns the next update of a viewer. A diff is never longer than that of `update`. With
-        `scroll`, a diff may begin by moving rows or columns, and the update may be a redraw, as
-        with `update_scrolling`. Runs within a row of the one-column characters that `repeat` allows
-        may be written with REP (ECMA-48, 8.3.103); some terminals ignore REP.
+        """Returns the next update of a viewer. A diff is never longer than that of `update` or,
+        with `portable`, than its portable form (see `Screen.contents_formatted`). With `scroll`, a
+        diff may begin by moving rows or columns, and the update may be a redraw, as with
+        `update_scrolling`. Runs within a row of the one-column characters that `repeat` allows may
+        be written with REP (ECMA-48, 8.3.103); some terminals ignore REP. With `portable`, diffs
+        and redraws avoid sequences on whose effects real terminals disagree.
         """
-        return self._update(library.vt100_update_with, viewer, diff_options(scroll, repeat))
+        options = diff_options(scroll, repeat, portable)
+        return self._update(library.vt100_update_with, viewer, options)
 
     def is_current(self, viewer: SupportsIndex) -> bool:
         """Returns whether a viewer is known to be up to date. If it is, its next update is an empty

@@ -309,10 +309,11 @@ class Screen(HasState):
         last one."""
         return self._text(library.vt100_contents_formatted_basic)
 
-    def state_formatted(self) -> str:
+    def state_formatted(self, *, portable: bool = False) -> str:
         """Returns the escape sequences that redraw the screen and set the input modes:
-        `contents_formatted` followed by `input_mode_formatted`."""
-        return self._text(library.vt100_state_formatted)
+        `contents_formatted` followed by `input_mode_formatted`. With `portable`, the redraw is
+        portable (see `contents_formatted`)."""
+        return self._text(library.vt100_state_formatted_with, redraw_options(portable))
 
     def cursor_state_formatted(self) -> str:
         """Returns the part of a redraw that moves the cursor and shows or hides it, for a plain
@@ -351,8 +352,8 @@ class Screen(HasState):
         """Returns a diff with options, which is never longer than that of `contents_diff` or, with
         `portable`, than its portable form (see `contents_formatted`). With `scroll`, it may begin
         by moving rows or columns, and moves the cursor with shorter sequences; a portable diff moves
-        no rows or columns. Runs within a row of the one-column characters that `repeat` allows may
-        be written with REP (ECMA-48, 8.3.103); some terminals ignore REP."""
+        no columns. Runs within a row of the one-column characters that `repeat` allows may be
+        written with REP (ECMA-48, 8.3.103); some terminals ignore REP."""
         options = diff_options(scroll, repeat, portable)
         return self._diff(library.vt100_contents_diff_with, prev, options)
 
@@ -360,6 +361,19 @@ class Screen(HasState):
         """Returns the escape sequences that turn the display and the input modes of `prev` into
         those of this screen: `contents_diff` followed by `input_mode_diff`."""
         return self._diff(library.vt100_state_diff, prev)
+
+    def state_diff_with(
+        self,
+        prev: Screen,
+        *,
+        scroll: bool = False,
+        repeat: Repeat = Repeat.NEVER,
+        portable: bool = False,
+    ) -> str:
+        """Returns the escape sequences that turn the display and the input modes of `prev` into
+        those of this screen, with options: `contents_diff_with` followed by `input_mode_diff`."""
+        options = diff_options(scroll, repeat, portable)
+        return self._diff(library.vt100_state_diff_with, prev, options)
 
     def input_mode_diff(self, prev: Screen) -> str:
         """Returns the escape sequences that turn the input modes of `prev` into those of this

@@ -1,4 +1,4 @@
-use crate::redraw_options::PORTABLE;
+use crate::redraw_options::{RedrawOptions, PORTABLE};
 use crate::repeat::Repeat;
 
 /// Options that allow a diff to contain more than
@@ -14,11 +14,18 @@ pub struct DiffOptions {
     pub repeat: Repeat,
 
     /// Whether the diff avoids sequences on whose effects real terminals disagree. A portable diff
-    /// moves no rows or columns, whatever `scroll` is. Updates of a mirror ignore this option.
+    /// moves no columns; with `scroll`, it may move rows.
     pub portable: bool,
 }
 
 impl DiffOptions {
+    /// Returns the options for a redraw that takes the place of the diff.
+    pub(crate) fn of_redraw(self) -> RedrawOptions {
+        RedrawOptions {
+            portable: self.portable,
+        }
+    }
+
     /// Returns the bits that the library expects for these options.
     pub(crate) fn bits(self) -> u8 {
         let repeat = match self.repeat {

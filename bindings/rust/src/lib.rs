@@ -5,8 +5,8 @@
 //! The items are those of the crate `vt100` 0.18.1, with the addition of [`mirror`],
 //! [`DiffOptions`], [`RedrawOptions`], [`Repeat`], [`Parser::pending_len`],
 //! [`Screen::contents_formatted_with`], [`Screen::contents_diff_scrolling`],
-//! [`Screen::contents_diff_with`], [`Screen::is_steady`], [`Screen::shown_copy`],
-//! [`TERMINAL_SETUP`] and [`TERMINAL_RESTORE`]. This crate wraps a formally verified library.
+//! [`Screen::contents_diff_with`], [`Screen::state_formatted_with`], [`Screen::state_diff_with`],
+//! [`Screen::is_steady`], [`Screen::shown_copy`], [`TERMINAL_SETUP`] and [`TERMINAL_RESTORE`]. This crate wraps a formally verified library.
 //!
 //! # Synopsis
 //!

@@ -67,7 +67,9 @@ const BAD_ARGUMENT: u8 = 3;
 const OTHER_SIZE: u8 = 5;
 
 type OfOne = unsafe extern "C" fn(*mut Handle, *mut usize) -> u8;
+type OfOneWith = unsafe extern "C" fn(*mut Handle, u8, *mut usize) -> u8;
 type OfTwo = unsafe extern "C" fn(*mut Handle, *mut Handle, *mut usize) -> u8;
+type OfTwoWith = unsafe extern "C" fn(*mut Handle, *mut Handle, u8, *mut usize) -> u8;
 type OfViewer = unsafe extern "C" fn(*mut Handle, u64, *mut u16, *mut u16, *mut usize) -> u8;
 type OfRows = unsafe extern "C" fn(*mut Handle, u16, u16, *mut usize, usize, *mut usize) -> u8;
 
@@ -110,6 +112,7 @@ extern "C" {
     fn vt100_contents_formatted_with(handle: *mut Handle, options: u8, len: *mut usize) -> u8;
     fn vt100_contents_formatted_basic(handle: *mut Handle, len: *mut usize) -> u8;
     fn vt100_state_formatted(handle: *mut Handle, len: *mut usize) -> u8;
+    fn vt100_state_formatted_with(handle: *mut Handle, options: u8, len: *mut usize) -> u8;
     fn vt100_cursor_state_formatted(handle: *mut Handle, len: *mut usize) -> u8;
     fn vt100_attributes_formatted(handle: *mut Handle, len: *mut usize) -> u8;
     fn vt100_input_mode_formatted(handle: *mut Handle, len: *mut usize) -> u8;
@@ -123,6 +126,12 @@ extern "C" {
         len: *mut usize,
     ) -> u8;
     fn vt100_state_diff(handle: *mut Handle, prev: *mut Handle, len: *mut usize) -> u8;
+    fn vt100_state_diff_with(
+        handle: *mut Handle,
+        prev: *mut Handle,
+        options: u8,
+        len: *mut usize,
+    ) -> u8;
     fn vt100_input_mode_diff(handle: *mut Handle, prev: *mut Handle, len: *mut usize) -> u8;
     fn vt100_rows(
         handle: *mut Handle,
@@ -217,6 +226,15 @@ impl Text {
     pub const INPUT_MODE: Self = Self(vt100_input_mode_formatted);
 }
 
+/// A kind of text generated from one screen with options.
+#[derive(Clone, Copy)]
+pub struct TextWith(OfOneWith);
+
+impl TextWith {
+    pub const FORMATTED: Self = Self(vt100_contents_formatted_with);
+    pub const STATE: Self = Self(vt100_state_formatted_with);
+}
+
 /// A kind of text generated from two screens.
 #[derive(Clone, Copy)]
 pub struct Difference(OfTwo);
@@ -226,6 +244,15 @@ impl Difference {
     pub const SCROLLING: Self = Self(vt100_contents_diff_scrolling);
     pub const STATE: Self = Self(vt100_state_diff);
     pub const INPUT_MODE: Self = Self(vt100_input_mode_diff);
+}
+
+/// A kind of text generated from two screens with options.
+#[derive(Clone, Copy)]
+pub struct DifferenceWith(OfTwoWith);
+
+impl DifferenceWith {
+    pub const CONTENTS: Self = Self(vt100_contents_diff_with);
+    pub const STATE: Self = Self(vt100_state_diff_with);
 }
 
 /// A kind of update for the viewers of a mirror.
@@ -442,10 +469,9 @@ impl Handle {
         self.copied(len)
     }
 
-    /// Returns the redraw with options.
-    pub fn redraw_with(&mut self, options: RedrawOptions) -> String {
+    pub fn text_with(&mut self, text: TextWith, options: RedrawOptions) -> String {
         let mut len = 0;
-        check(unsafe { vt100_contents_formatted_with(self, options.bits(), &mut len) });
+        check(unsafe { (text.0)(self, options.bits(), &mut len) });
         self.copied(len)
     }
 
@@ -462,9 +488,14 @@ impl Handle {
     }
 
     /// Returns the diff from the screen `prev` with options, or `None` if the sizes differ.
-    pub fn difference_with(&mut self, prev: &mut Self, options: DiffOptions) -> Option<String> {
+    pub fn difference_with(
+        &mut self,
+        prev: &mut Self,
+        difference: DifferenceWith,
+        options: DiffOptions,
+    ) -> Option<String> {
         let mut len = 0;
-        match unsafe { vt100_contents_diff_with(self, prev, options.bits(), &mut len) } {
+        match unsafe { (difference.0)(self, prev, options.bits(), &mut len) } {
             OTHER_SIZE => None,
             status => {
                 check(status);

@@ -116,10 +116,11 @@ impl Mirror {
 
     /// Returns the next update of a viewer, or `None` if there is no viewer with this number. A
     /// diff has the given options, which may change from update to update, and is never longer than
-    /// that of [`update`](Self::update).
+    /// that of [`update`](Self::update) or, if it is portable, than its portable form.
     ///
     /// With the option `scroll`, the update may be a redraw, as with
-    /// [`update_scrolling`](Self::update_scrolling).
+    /// [`update_scrolling`](Self::update_scrolling). With the option `portable`, a redraw is
+    /// portable, too.
     pub fn update_with(&mut self, viewer: u64, options: DiffOptions) -> Option<Update> {
         let update = self.handle().update_with(options, viewer)?;
         Some(update_of(update))

@@ -2,7 +2,7 @@
 
 use crate::capture::BasicFormattedCaptureRange;
 use crate::diff_options::DiffOptions;
-use crate::library::{Difference, Handle, RowTexts, Text};
+use crate::library::{Difference, DifferenceWith, Handle, RowTexts, Text, TextWith};
 use crate::redraw_options::RedrawOptions;
 use crate::Screen;
 use std::fmt;
@@ -138,16 +138,36 @@ impl Screen {
     /// Not in the crate `vt100`.
     #[must_use]
     pub fn contents_formatted_with(&self, options: RedrawOptions) -> String {
-        self.lock().redraw_with(options)
+        self.lock().text_with(TextWith::FORMATTED, options)
     }
 
     /// Returns a diff with options, which is never longer than that of
-    /// [`contents_diff`](Self::contents_diff) or, if it is portable, than its portable form. If the sizes differ, returns the redraw instead. Not
-    /// in the crate `vt100`.
+    /// [`contents_diff`](Self::contents_diff) or, if it is portable, than its portable form. If the
+    /// sizes differ, returns the redraw instead, which is portable if the diff must be. Not in the
+    /// crate `vt100`.
     #[must_use]
     pub fn contents_diff_with(&self, prev: &Self, options: DiffOptions) -> String {
-        self.with_both(prev, |handle, prev| handle.difference_with(prev, options))
-            .unwrap_or_else(|| self.contents_formatted())
+        self.difference_with(prev, DifferenceWith::CONTENTS, options)
+            .unwrap_or_else(|| self.contents_formatted_with(options.of_redraw()))
+    }
+
+    /// Returns the escape sequences that redraw the screen and set the input modes:
+    /// [`contents_formatted_with`](Self::contents_formatted_with) followed by
+    /// [`input_mode_formatted`](Self::input_mode_formatted). Not in the crate `vt100`.
+    #[must_use]
+    pub fn state_formatted_with(&self, options: RedrawOptions) -> String {
+        self.lock().text_with(TextWith::STATE, options)
+    }
+
+    /// Returns the escape sequences that turn the display and the input modes of `prev` into those
+    /// of `self`: [`contents_diff_with`](Self::contents_diff_with) followed by
+    /// [`input_mode_diff`](Self::input_mode_diff). Not in the crate `vt100`.
+    #[must_use]
+    pub fn state_diff_with(&self, prev: &Self, options: DiffOptions) -> String {
+        self.difference_with(prev, DifferenceWith::STATE, options)
+            .unwrap_or_else(|| {
+                self.contents_formatted_with(options.of_redraw()) + &self.input_mode_diff(prev)
+            })
     }
 
     /// Returns the escape sequences that turn each row of `prev` into the corresponding row of
@@ -209,6 +229,17 @@ impl Screen {
 
     fn difference(&self, prev: &Self, difference: Difference) -> Option<String> {
         self.with_both(prev, |handle, prev| handle.difference(prev, difference))
+    }
+
+    fn difference_with(
+        &self,
+        prev: &Self,
+        difference: DifferenceWith,
+        options: DiffOptions,
+    ) -> Option<String> {
+        self.with_both(prev, |handle, prev| {
+            handle.difference_with(prev, difference, options)
+        })
     }
 
     /// Passes both handles to `f`, locked in the order of their addresses, so that two threads

@@ -122,6 +122,66 @@ fn portable_output_avoids_what_terminals_disagree_on() {
 }
 
 #[test]
+fn states_have_options_and_modes() {
+    let mut parser = Parser::new(size(2), size(20), 0);
+    let before = parser.screen().clone();
+    parser.process(b"\x1b=\x1b[?2004h----------\r\n\x1b[2ma\x1b[22;1mb");
+    let screen = parser.screen();
+    let (dim_then_bold, modes) = ("\x1b[2ma\x1b[m\x1b[1mb", "\x1b=\x1b[?2004h");
+    let mut options = DiffOptions::default();
+    assert_eq!(
+        screen.state_diff_with(&before, options),
+        screen.state_diff(&before)
+    );
+    options.portable = true;
+    assert_eq!(
+        screen.state_diff_with(&before, options),
+        format!("----------\r\n{dim_then_bold}{modes}")
+    );
+    options.repeat = Repeat::Ascii;
+    assert_eq!(
+        screen.state_diff_with(&before, options),
+        format!("-\x1b[9b\r\n{dim_then_bold}{modes}")
+    );
+    assert_eq!(screen.state_diff_with(screen, options), "");
+    let clear = "\x1b[?25h\x1b[m\x1b[H\x1b[J";
+    assert_eq!(
+        screen.state_formatted_with(RedrawOptions { portable: true }),
+        format!("{clear}----------\r\n{dim_then_bold}\x1b=\x1b[?1l\x1b[?2004h")
+    );
+    assert_eq!(
+        screen.state_formatted_with(RedrawOptions::default()),
+        screen.state_formatted()
+    );
+}
+
+#[test]
+fn portable_updates_avoid_what_terminals_disagree_on() {
+    let portable = DiffOptions {
+        portable: true,
+        ..DiffOptions::default()
+    };
+    let full = |text: &str| {
+        Some(Update::Full {
+            rows: size(2),
+            cols: size(5),
+            text: format!("\x1b[?25h\x1b[m\x1b[H\x1b[J{text}"),
+        })
+    };
+    let diff = |text: &str| Some(Update::Diff(text.into()));
+    let mut mirror = Mirror::new(size(2), size(5), 0);
+    mirror.process(b"\x1b[2ma\x1b[22;1mb");
+    let (first, second) = (mirror.join(), mirror.join());
+    let wanted = full("\x1b[2ma\x1b[m\x1b[1mb");
+    assert_eq!(mirror.update_with(first, portable), wanted);
+    assert_eq!(mirror.update(second), full("\x1b[2ma\x1b[1mb"));
+    mirror.process(b"\x1b[22;2mc");
+    assert_eq!(mirror.update(first), diff("\x1b[2mc"));
+    let wanted = diff("\x1b[m\x1b[2mc");
+    assert_eq!(mirror.update_with(second, portable), wanted);
+}
+
+#[test]
 fn rows_move_and_runs_are_repeated() {
     let mut parser = Parser::new(size(4), size(10), 0);
     parser.process(b"aaaaaaaaa\r\nbbbbbbbbb\r\nccccccccc\r\nddddddddd");

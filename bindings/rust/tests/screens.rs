@@ -3,7 +3,10 @@
 use std::io::Write;
 use std::num::NonZeroU16;
 use std::panic::{RefUnwindSafe, UnwindSafe};
-use vt100::{Cell, Color, MouseProtocolEncoding, MouseProtocolMode, Parser, Screen};
+use vt100::{
+    Cell, Color, DiffOptions, MouseProtocolEncoding, MouseProtocolMode, Parser, RedrawOptions,
+    Screen,
+};
 
 fn size(number: u16) -> NonZeroU16 {
     NonZeroU16::new(number).unwrap()
@@ -156,6 +159,19 @@ fn from_another_size_a_difference_is_a_redraw() {
     assert_eq!(
         screen.state_diff(&prev),
         screen.contents_formatted() + &modes
+    );
+    let portable = RedrawOptions { portable: true };
+    let options = DiffOptions {
+        portable: true,
+        ..DiffOptions::default()
+    };
+    assert_eq!(
+        screen.contents_diff_with(&prev, options),
+        screen.contents_formatted_with(portable)
+    );
+    assert_eq!(
+        screen.state_diff_with(&prev, options),
+        screen.contents_formatted_with(portable) + &modes
     );
     let rows: Vec<String> = screen.rows_diff(&prev, 0, 5).collect();
     assert_eq!(

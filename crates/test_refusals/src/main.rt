@@ -22,7 +22,7 @@ mod users;
 mod whole;
 
 use pair::{Act, Pair};
-use scenes::{ACTS, MORE_SCENES, MORE_TEXTS, MOVED, REPEATED, ROWS, SCENES, Scene, TEXTS};
+use scenes::{ACTS, MORE_SCENES, MORE_TEXTS, MOVED, REPEATED, ROWS, SCENES, STATES, Scene, TEXTS};
 use shown::Shown;
 use standing::Standing;
 use std::alloc::Global;
@@ -83,7 +83,8 @@ fn run_scenes<R: AllocGlobal + Print>(rt: &R) -> io::Result<()> {
     mirrors::run_scrolling(rt)?;
     mirrors::run_sharing(rt)?;
     run_pair(rt, "a difference with REP", &REPEATED)?;
-    mirrors::run_repeating(rt)
+    mirrors::run_repeating(rt)?;
+    run_pair(rt, "states with options", &STATES)
 }
 
 /// Creates a parser, makes the calls of a scene on it, and prints the results.

@@ -76,6 +76,9 @@ impl fmt::Display for Act {
             }
             Act::Differ(Change::Repeating) => write!(f, "first differs from second, with REP"),
             Act::Differ(Change::State) => write!(f, "state of first differs from second"),
+            Act::Differ(Change::PortableState) => {
+                write!(f, "state of first differs from second, portable, with REP")
+            }
             Act::Differ(Change::Modes) => write!(f, "modes of first differ from second"),
             Act::Differ(Change::Rows) => write!(f, "rows of first differ from second"),
         }

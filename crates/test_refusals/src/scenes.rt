@@ -201,6 +201,24 @@ pub const REPEATED: [Act; 7] = [
     Act::Differ(Change::Repeating),
 ];
 
+/// Actions that generate, twice each, the portable redraw of a state, a portable diff between states
+/// with REP, and such a diff between states that differ only in their modes. The redraw or the diff is
+/// generated first, and the output for modes is appended.
+pub const STATES: [Act; 12] = [
+    Act::First(Step::SetSize(1, 12)),
+    Act::First(Step::SetSize(1, 12)),
+    Act::Second(Step::SetSize(1, 12)),
+    Act::Second(Step::SetSize(1, 12)),
+    Act::First(Step::Process(b"\x1b=\x1b[?1003;1006h--------\x1b[2ma\x1b[22;1mb")),
+    Act::First(Step::PortableState),
+    Act::First(Step::PortableState),
+    Act::Differ(Change::PortableState),
+    Act::Differ(Change::PortableState),
+    Act::Second(Step::Process(b"--------\x1b[2ma\x1b[22;1mb")),
+    Act::Differ(Change::PortableState),
+    Act::Differ(Change::PortableState),
+];
+
 /// Actions that generate the output for the rows of two screens, item by item. The item after a
 /// failed item is the item of the next row.
 pub const ROWS: [Act; 4] = [

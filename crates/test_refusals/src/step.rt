@@ -5,13 +5,20 @@ use std::alloc::Global;
 use std::fmt;
 use std::num::NonZeroU16;
 use vt100::capture::{BasicFormattedCaptureRange, BasicFormattedCaptureState};
-use vt100::{DiffOptions, Error, Parser, Repeat, Screen};
+use vt100::{DiffOptions, Error, Parser, RedrawOptions, Repeat, Screen};
 
 /// The options of diffs that may move rows or columns first and may contain REP.
 pub const BOTH: DiffOptions = DiffOptions {
     scroll: true,
     repeat: Repeat::Any,
     portable: false,
+};
+
+/// The options of portable diffs that may contain REP.
+pub const PORTABLE: DiffOptions = DiffOptions {
+    scroll: false,
+    repeat: Repeat::Any,
+    portable: true,
 };
 
 /// A call on a parser or on its screen.
@@ -34,6 +41,9 @@ pub enum Step {
 
     /// Calls `state_formatted` on the screen.
     State,
+
+    /// Calls `state_formatted_with` on the screen, for portable output.
+    PortableState,
 
     /// Calls `input_mode_formatted` on the screen.
     Modes,
@@ -104,6 +114,9 @@ impl Step {
             Step::Cursor => answer_of(screen.cursor_state_formatted()),
             Step::Attributes => answer_of(screen.attributes_formatted()),
             Step::State => answer_of(screen.state_formatted()),
+            Step::PortableState => {
+                answer_of(screen.state_formatted_with(RedrawOptions { portable: true }))
+            }
             Step::Modes => answer_of(screen.input_mode_formatted()),
             Step::Contents => answer_of(screen.contents()),
             Step::Range => answer_of(screen.contents_between(0, 0, 1, 4)),
@@ -169,6 +182,9 @@ pub enum Change {
     /// The output of `state_diff`.
     State,
 
+    /// The output of `state_diff_with` in the portable form, with REP.
+    PortableState,
+
     /// The output of `input_mode_diff`.
     Modes,
 
@@ -189,6 +205,7 @@ impl Change {
             Change::Scrolling => answer_of(screen.contents_diff_scrolling(prev)),
             Change::Repeating => answer_of(screen.contents_diff_with(prev, BOTH)),
             Change::State => answer_of(screen.state_diff(prev)),
+            Change::PortableState => answer_of(screen.state_diff_with(prev, PORTABLE)),
             Change::Modes => answer_of(screen.input_mode_diff(prev)),
             Change::Rows => {
                 let (_rows, _cols) = screen.size();
@@ -261,6 +278,7 @@ impl fmt::Display for Step {
             Step::Cursor => write!(f, "cursor"),
             Step::Attributes => write!(f, "attributes"),
             Step::State => write!(f, "state"),
+            Step::PortableState => write!(f, "portable state"),
             Step::Modes => write!(f, "modes"),
             Step::Contents => write!(f, "contents"),
             Step::Range => write!(f, "range"),

@@ -5,7 +5,7 @@ use Rattle.vt_rows.specs.Basic.{Written}
 use Rattle.vt_rows.specs.Row.{RowValue}
 use Rattle.vt_screen.specs.Capture.{all_rows, basic_texts}
 use Rattle.vt_screen.specs.Screen.{ScreenValue}
-use Rattle.vt100_c.specs.Due.{source_at, text_at}
+use Rattle.vt100_c.specs.Due.{IsSomeAnd, source_at, text_at}
 use Rattle.vt100_c.specs.Records.{Logged}
 use Rattle.vt100_c.specs.Status.{ok, bad_argument, no_object, wrong_kind}
 use Rattle.vt100_c.specs.declared.object.Object.{Object}
@@ -61,9 +61,6 @@ pub record HoldsCapture (written : List ℕ) (state : Written) (held : Option Ob
 
 -- ---- the rows of a screen, and reported rows
 
-abbrev pub any_screen_is_due : ScreenValue → ℕ
-any_screen_is_due screen = ok
-
 -- Appending the rows of the screen to a capture with the given state adds at least one byte.
 abbrev pub HaveText : ScreenValue → Written → Type 0
 HaveText screen state = 0 < length (basic_texts state (all_rows screen))
@@ -73,11 +70,6 @@ HaveText screen state = 0 < length (basic_texts state (all_rows screen))
 abbrev pub reported_status : ℕ → Logged → ℕ
 reported_status index log = if nat_lt index (length log.rows) then ok else bad_argument
 
--- The row exists, and the given predicate is true of it.
-abbrev pub OnRow : Option RowValue → (RowValue → Type 0) → Type 0
-OnRow None Holds = ⊥
-OnRow (Some row) Holds = Holds row
-
 -- The log has a row with the given index, and the given predicate is true of this row and the capture state.
 abbrev pub OnReported : ℕ → (RowValue → Written → Type 0) → Logged → Written → Type 0
-OnReported index Holds log state = OnRow (slice_get log.rows index) (λ row. Holds row state)
+OnReported index Holds log state = IsSomeAnd (slice_get log.rows index) (λ row. Holds row state)

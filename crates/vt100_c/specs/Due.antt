@@ -24,6 +24,17 @@ due_to (Some value) = ok
 
 -- ---- what a handle holds
 
+-- The status of a call that requires a value of a certain kind in a handle: `no_object` if the handle is empty,
+-- `wrong_kind` if its object has no such value, and otherwise `ok`.
+abbrev pub due_to_held : {A : Type 0} → (of : Source → Option A) → Option Object → ℕ
+due_to_held of None = no_object
+due_to_held of (Some object) = due_to (of object.source)
+
+-- The handle's object has a value of a certain kind, and the given predicate is true of it.
+abbrev pub HoldsOne : {A : Type 0} → (of : Source → Option A) → Option Object → (A → Type 0) → Type 0
+HoldsOne of None Holds = ⊥
+HoldsOne of (Some object) Holds = IsSomeAnd (of object.source) Holds
+
 abbrev pub source_at : Option Object → Option Source
 source_at None = None
 source_at (Some object) = Some object.source
@@ -77,8 +88,7 @@ start_status start_row start_col end_row screen =
     if nat_lt start_row end_row && nat_lt screen.page.width start_col then bad_argument else ok
 
 abbrev pub HoldsScreen : Option Object → (ScreenValue → Type 0) → Type 0
-HoldsScreen None Holds = ⊥
-HoldsScreen (Some object) Holds = IsSomeAnd (screen_in object.source) Holds
+HoldsScreen held Holds = HoldsOne screen_in held Holds
 
 -- ---- two screens
 

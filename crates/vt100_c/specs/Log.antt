@@ -2,7 +2,6 @@
 use Rattle.std.specs.Prelude.{◌≡◌, ℕ, List, [], Option, Some, None}
 use Rattle.vt100_c.specs.Due.{due_to}
 use Rattle.vt100_c.specs.Records.{Logged, bit_of, log_after_clear, nothing_logged}
-use Rattle.vt100_c.specs.Status.{no_object}
 use Rattle.vt100_c.specs.declared.object.Object.{Object}
 use Rattle.vt100_c.specs.declared.object.Source.{Source}
 use Rattle.vt100_c.specs.declared.object.Source.TheVariants.{Parser, Screen, Mirror, Capture}
@@ -16,10 +15,6 @@ log_in (Capture written) = None
 abbrev pub log_at : Option Object → Option Logged
 log_at None = None
 log_at (Some object) = log_in object.source
-
-abbrev pub due_to_log : Option Object → ℕ
-due_to_log None = no_object
-due_to_log (Some object) = due_to (log_in object.source)
 
 -- The records of a log; empty if there is no log.
 abbrev pub records_of : Option Logged → List ℕ

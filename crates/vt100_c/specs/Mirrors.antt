@@ -2,11 +2,12 @@
 use Rattle.std.specs.Prelude.{◌≡◌, ℕ, Bool, false, List, Option, Some, None, Result, Ok, Err, string_bytes, string_len}
 use Rattle.std.specs.Prelude.{if◌then◌else◌}
 use Rattle.vt_cells.specs.declared.error.Error.{Error}
-use Rattle.vt_mirror.specs.Calls.{Asks, JoinsMirror, Kind, Leaves}
+use Rattle.vt_mirror.specs.Calls.{Asks, JoinsMirror, Leaves}
 use Rattle.vt_mirror.specs.Mirror.{MirrorValue, is_current}
 use Rattle.vt_mirror.specs.Viewers.{PutsAmong}
 use Rattle.vt_mirror.specs.declared.update.Update.{Update}
 use Rattle.vt_mirror.specs.declared.update.Update.TheVariants.{Diff, Full}
+use Rattle.vt_screen.specs.declared.diff_options.DiffOptions.{DiffOptions}
 use Rattle.vt100_c.specs.Status.{ok, bad_argument, status_of}
 
 -- ---- joining and leaving
@@ -68,10 +69,10 @@ status_after (Ok None) = bad_argument
 status_after (Err error) = status_of error
 
 -- The effect of requesting an update: the text of the update and its numbers are stored.
-pub record Updates (kind : Kind) (viewer status : ℕ) (text text' : List ℕ) (before after : UpdateNumbers)
+pub record Updates (options : DiffOptions) (viewer status : ℕ) (text text' : List ℕ) (before after : UpdateNumbers)
     (old new : MirrorValue) : Type 0 where
   pub answer : Result (Option Update) Error
-  pub call : Asks kind old viewer answer new
+  pub call : Asks options old viewer answer new
   pub answers : status ≡ status_after answer
   pub keeps : text' ≡ text_after answer text
   pub gives : after ≡ numbers_after answer before

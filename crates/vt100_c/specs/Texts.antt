@@ -1,5 +1,5 @@
 -- The text or output that each call generates.
-use Rattle.std.specs.Prelude.{◌≡◌, ◌<◌, ◌≤◌, ◌/◌, ◌%◌, ◌==◌, ℕ, IsTrue, List, [], Option, length, if◌then◌else◌}
+use Rattle.std.specs.Prelude.{◌≡◌, ◌<◌, ◌≤◌, ◌/◌, ◌%◌, ◌==◌, ℕ, IsTrue, List, [], ◌++◌, Option, length, if◌then◌else◌}
 use Rattle.vt_cells.specs.Op.{bytes_of_all}
 use Rattle.vt_redraw.specs.Redraw.{cursor_state, difference, redraw}
 use Rattle.vt_rows.specs.Basic.{nothing_written}
@@ -8,7 +8,7 @@ use Rattle.vt_screen.specs.AnyRegion.{reset_text}
 use Rattle.vt_screen.specs.Capture.{basic_texts}
 use Rattle.vt_screen.specs.Contents.{between_of, contents_of}
 use Rattle.vt_screen.specs.Diffs.{IsDiffWith, KeepsScreensPlain, RepeatsOnlyInRows, diff_controls, finals_with}
-use Rattle.vt_screen.specs.Diffs.{form_with, may_move}
+use Rattle.vt_screen.specs.Diffs.{form_with}
 use Rattle.vt_screen.specs.declared.diff_options.DiffOptions.{DiffOptions}
 use Rattle.vt_screen.specs.declared.redraw_options.RedrawOptions.{RedrawOptions}
 use Rattle.vt_screen.specs.declared.repeat.Repeat.{Repeat}
@@ -18,8 +18,13 @@ use Rattle.vt_screen.specs.MadeOf.{IsMadeOf, shortened_controls, shortened_final
 use Rattle.vt_screen.specs.Screen.{ScreenValue, visible_rows}
 use Rattle.vt_screen.specs.ShortMoves.{IsMovingOrRedraw}
 use Rattle.vt_screen.specs.Shown.{IsSameIfEmpty, RedrawsFrom, attributes_text, display, display_change_in}
+use Rattle.vt_screen.specs.Portable.{IsPortableFrom}
 use Rattle.vt_screen.specs.Shown.{form_of, shown_text, shown_text_in}
+use Rattle.vt_screen.specs.Portable.{IsPortableFrom}
+use Rattle.vt_screen.specs.States.{AreModes, GivesState, IsEmptyIfSameState, IsSameStateIfEmpty, IsStateReaderOf}
 use Rattle.vt_screen.specs.States.{state_change, state_text}
+use Rattle.vt_screen.specs.StatesWith.{DrawsThenSets, IsStateDiffWith, SetsModesOnScreens, state_change_in}
+use Rattle.vt_screen.specs.StatesWith.{state_diff_controls, state_text_in}
 use Rattle.vt100_c.specs.Due.{HoldBoth, HoldsScreen, any_screen, any_screens, sizes_status, source_at, start_status, text_at}
 use Rattle.vt100_c.specs.Status.{ok, out_of_memory}
 use Rattle.vt100_c.specs.declared.output.Difference.{Difference}
@@ -39,6 +44,7 @@ text_of (text.FormattedWith options) screen = shown_text_in (form_of options.por
 text_of text.FormattedReset screen = reset_text (display screen)
 text_of text.FormattedBasic screen = basic_texts nothing_written (visible_rows screen)
 text_of text.State screen = state_text screen
+text_of (text.StateWith options) screen = state_text_in (form_of options.portable) screen
 text_of text.CursorState screen = bytes_of_all (cursor_state (display screen))
 text_of text.Attributes screen = attributes_text screen.attrs
 text_of text.InputMode screen = input_text screen.modes
@@ -71,8 +77,8 @@ pub record IsScrollingDiff (screen prev : ScreenValue) (text : List ℕ) : Type 
 abbrev pub repeat_of : ℕ → Repeat
 repeat_of bits = if bits / 2 % 2 == 1 then Any else (if bits / 4 % 2 == 1 then Ascii else Never)
 
--- The options that the bits of a number select: bit 0 allows moving rows or columns, bits 1 and 2 allow REP, and bit 3
--- makes the diff portable.
+-- The options that the bits of a number select: bit 0 allows moving rows and, unless the diff is portable, columns; bits
+-- 1 and 2 allow REP; and bit 3 makes the diff portable.
 abbrev pub options_of : ℕ → DiffOptions
 options_of bits = record { scroll = bits % 2 == 1; repeat = repeat_of bits; portable = bits / 8 % 2 == 1 }
 
@@ -82,25 +88,49 @@ redraw_options_of bits = record { portable = bits / 8 % 2 == 1 }
 
 -- The text is a diff from the display of `prev` to the display of `screen` with the given options. A plain terminal that
 -- displays `prev` and reads the text displays `screen`, if that screen is steady. The text is never longer than the diff
--- that moves no rows or columns or, if it may move them, than the redraw. It contains only drawing sequences and REP,
--- repeats characters only within rows, and leaves every plain terminal plain. It is empty if both screens have the same
--- display, and if `screen` is steady, only then.
+-- in its form that moves no rows or columns or, if it may move rows, than the redraw in its form. It contains only
+-- drawing sequences and REP, repeats characters only within rows, and leaves every plain terminal plain. It is empty if
+-- both screens have the same display, and if `screen` is steady, only then. With `portable`, terminals agree on the
+-- effect of each of its elements, if `screen` is steady.
 pub record IsDiffWithOptions (options : DiffOptions) (screen prev : ScreenValue) (text : List ℕ) : Type 0 where
   pub draws : IsDiffWith options prev screen text
   pub controls : IsMadeOf (finals_with options.repeat options.scroll) (diff_controls options.scroll) text
   pub rows : RepeatsOnlyInRows prev screen text
   pub again : KeepsScreensPlain text
   pub shorter : length text ≤ length (display_change_in (form_with options) prev screen)
-  pub redraw : IsTrue (may_move options) → length text ≤ length (shown_text screen)
+  pub redraw : IsTrue options.scroll → length text ≤ length (shown_text_in (form_with options) screen)
   pub redraws : RedrawsFrom prev screen text
   pub empty : IsSameIfEmpty prev screen text
   pub none : display screen ≡ display prev → text ≡ []
+  pub portable : IsTrue options.portable → IsPortableFrom prev screen text
+
+-- The text is a diff with the given options from the display and input modes of `prev` to those of `screen`. A plain
+-- terminal that displays `prev`, has its modes and reads the text displays `screen` and has its modes, if that screen is
+-- steady. The text is never longer than the diff in its form that moves no rows or columns or, if it may move rows, than
+-- the redraw in its form, each followed by the changes of modes. It contains only drawing sequences, sequences that set input modes, and REP, repeats
+-- characters only within rows, and leaves every plain terminal with the modes of `prev` plain. It is empty if both screens
+-- have the same display and modes, and if `screen` is steady, only then. If it must be portable, it is so up to the changes
+-- of modes.
+pub record IsStateDiffWithOptions (options : DiffOptions) (screen prev : ScreenValue) (text : List ℕ) : Type 0 where
+  pub draws : IsStateDiffWith options prev screen text
+  pub controls : IsMadeOf (finals_with options.repeat options.scroll) (state_diff_controls options.scroll) text
+  pub rows : RepeatsOnlyInRows prev screen text
+  pub again : SetsModesOnScreens (AreModes prev.modes) screen.modes text
+  pub gives : GivesState (IsStateReaderOf screen prev) screen text
+  pub shorter : length text ≤ length (state_change_in (form_with options) prev screen)
+  pub redraw : IsTrue options.scroll →
+      length text ≤ length (shown_text_in (form_with options) screen ++ input_change prev.modes screen.modes)
+  pub empty : IsSameStateIfEmpty prev screen text
+  pub none : IsEmptyIfSameState prev screen text
+  pub portable : IsTrue options.portable →
+      DrawsThenSets (IsPortableFrom prev screen) (input_change prev.modes screen.modes) text
 
 abbrev pub IsDifference : Difference → ScreenValue → ScreenValue → List ℕ → Type 0
 IsDifference between.Contents screen prev text = text ≡ bytes_of_all (difference (display screen) (display prev))
 IsDifference between.Scrolling screen prev text = IsScrollingDiff screen prev text
 IsDifference (between.With options) screen prev text = IsDiffWithOptions options screen prev text
 IsDifference between.State screen prev text = text ≡ state_change prev screen
+IsDifference (between.StateWith options) screen prev text = IsStateDiffWithOptions options screen prev text
 IsDifference between.InputMode screen prev text = text ≡ input_change prev.modes screen.modes
 
 -- The status of a call that generates a diff between two screens: `other_size` if the screens differ in size, unless
@@ -121,9 +151,15 @@ HasText _ screen = Unit {0}
 abbrev pub HasChange : (text : List ℕ) → ScreenValue → ScreenValue → Type 0
 HasChange text screen prev = (0 < length text) × ¬ (display screen ≡ display prev)
 
+-- The output is not empty, and the screens display different content or have different input modes.
+abbrev pub HasStateChange : (text : List ℕ) → ScreenValue → ScreenValue → Type 0
+HasStateChange text screen prev =
+    (0 < length text) × ¬ ((display screen ≡ display prev) × (screen.modes ≡ prev.modes))
+
 abbrev pub HasDifference : Difference → ScreenValue → ScreenValue → Type 0
-HasDifference between.State screen prev =
-    (0 < length (state_change prev screen)) × ¬ ((display screen ≡ display prev) × (screen.modes ≡ prev.modes))
+HasDifference between.State screen prev = HasStateChange (state_change prev screen) screen prev
+HasDifference (between.StateWith options) screen prev =
+    HasStateChange (state_change_in (form_with options) prev screen) screen prev
 HasDifference between.InputMode screen prev =
     (0 < length (input_change prev.modes screen.modes)) × ¬ (screen.modes ≡ prev.modes)
 HasDifference (between.With options) screen prev =

@@ -1,19 +1,17 @@
 -- Calls for the viewers of a mirror that a handle holds.
-use Rattle.std.specs.Prelude.{◌≡◌, ℕ, List, Option, Some, None, string_bytes}
-use Rattle.vt_mirror.specs.Calls.{Kind}
+use Rattle.std.specs.Prelude.{◌≡◌, ℕ, List, Some, string_bytes}
 use Rattle.vt_mirror.specs.Mirror.{MirrorValue, is_current}
 use Rattle.vt_mirror.specs.Viewers.{note_of}
 use Rattle.vt_mirror.specs.Watching.{IsFresh}
 use Rattle.vt_scan.specs.Automaton.{start}
 use Rattle.vt_scan.specs.Scanner.{StandsFor}
 use Rattle.vt_screen.specs.Screen.{fresh_screen}
+use Rattle.vt_screen.specs.declared.diff_options.DiffOptions.{DiffOptions}
 use Rattle.vt100.specs.Parser.{parser_value}
 use Rattle.vt100_c.specs.Calls.{Refuses}
-use Rattle.vt100_c.specs.Due.{IsSomeAnd, due_to}
 use Rattle.vt100_c.specs.Mirrors.{Joins, LeavesIt, UpdateNumbers, Updates}
 use Rattle.vt100_c.specs.Shown.{bit}
-use Rattle.vt100_c.specs.Sources.{mirror_in}
-use Rattle.vt100_c.specs.Status.{no_object, wrong_kind}
+use Rattle.vt100_c.specs.Status.{wrong_kind}
 use Rattle.vt100_c.specs.declared.object.Object.{Object}
 use Rattle.vt100_c.specs.declared.object.Source.{Source}
 use Rattle.vt100_c.specs.declared.object.Source.TheVariants.{Parser, Screen, Mirror, Capture}
@@ -51,33 +49,25 @@ LeavesSource viewer (Capture old) status new = Refuses wrong_kind (Capture old) 
 
 -- A viewer of the mirror that a value contains gets an update, and the stored text is replaced; if the value is not a
 -- mirror, the status is `wrong_kind`.
-abbrev pub UpdatesSource : Kind → (viewer : ℕ) → (before after : UpdateNumbers) → (text text' : List ℕ) →
+abbrev pub UpdatesSource : DiffOptions → (viewer : ℕ) → (before after : UpdateNumbers) → (text text' : List ℕ) →
     Source → ℕ → Source → Type 0
-UpdatesSource kind viewer before after text text' (Mirror old) status (Mirror new) =
-    Updates kind viewer status text text' before after old new
-UpdatesSource kind viewer before after text text' (Mirror old) status (Parser new) = ⊥
-UpdatesSource kind viewer before after text text' (Mirror old) status (Screen new) = ⊥
-UpdatesSource kind viewer before after text text' (Mirror old) status (Capture new) = ⊥
-UpdatesSource kind viewer before after text text' (Parser old) status new =
+UpdatesSource options viewer before after text text' (Mirror old) status (Mirror new) =
+    Updates options viewer status text text' before after old new
+UpdatesSource options viewer before after text text' (Mirror old) status (Parser new) = ⊥
+UpdatesSource options viewer before after text text' (Mirror old) status (Screen new) = ⊥
+UpdatesSource options viewer before after text text' (Mirror old) status (Capture new) = ⊥
+UpdatesSource options viewer before after text text' (Parser old) status new =
     Refuses wrong_kind (Parser old) status new × (text' ≡ text) × (after ≡ before)
-UpdatesSource kind viewer before after text text' (Screen old) status new =
+UpdatesSource options viewer before after text text' (Screen old) status new =
     Refuses wrong_kind (Screen old) status new × (text' ≡ text) × (after ≡ before)
-UpdatesSource kind viewer before after text text' (Capture old) status new =
+UpdatesSource options viewer before after text text' (Capture old) status new =
     Refuses wrong_kind (Capture old) status new × (text' ≡ text) × (after ≡ before)
 
-abbrev pub UpdatesObject : Kind → (viewer : ℕ) → (before after : UpdateNumbers) → Object → ℕ → Object → Type 0
-UpdatesObject kind viewer before after old status new =
-    UpdatesSource kind viewer before after (string_bytes old.text) (string_bytes new.text) old.source status new.source
+abbrev pub UpdatesObject : DiffOptions → (viewer : ℕ) → (before after : UpdateNumbers) → Object → ℕ → Object → Type 0
+UpdatesObject options viewer before after old status new =
+    UpdatesSource options viewer before after (string_bytes old.text) (string_bytes new.text) old.source status new.source
 
 -- ---- whether a viewer is up to date
-
-abbrev pub due_to_mirror : Option Object → ℕ
-due_to_mirror None = no_object
-due_to_mirror (Some object) = due_to (mirror_in object.source)
-
-abbrev pub HoldsMirror : Option Object → (MirrorValue → Type 0) → Type 0
-HoldsMirror None Holds = ⊥
-HoldsMirror (Some object) Holds = IsSomeAnd (mirror_in object.source) Holds
 
 -- `out` is 1 if the viewer is up to date, and 0 otherwise. If `out` is 1, the screen recorded for the viewer is the
 -- mirror's screen.

@@ -6,10 +6,9 @@ ghost use Rattle.std.specs.List.{slice_get};
 ghost use Rattle.vt_rows.specs.Basic.{basic_text, nothing_written, written_after};
 ghost use Rattle.vt_screen.specs.Capture.{all_rows, basic_texts, written_after_all};
 ghost use Rattle.vt100_c.specs.Calls.{MakesOne};
-ghost use Rattle.vt100_c.specs.Capturing.{HaveText, HoldAtCapture, HoldsCapture, OnCapture, OnReported, OnRow};
-ghost use Rattle.vt100_c.specs.Capturing.{any_screen_is_due, due_at_capture, due_beside_capture, due_of_kinds};
-ghost use Rattle.vt100_c.specs.Capturing.{reported_status, state_in};
-ghost use Rattle.vt100_c.specs.Due.{AnswersOrStays, IsAnswer, status_in};
+ghost use Rattle.vt100_c.specs.Capturing.{HaveText, HoldAtCapture, HoldsCapture, OnCapture, OnReported};
+ghost use Rattle.vt100_c.specs.Capturing.{due_at_capture, due_beside_capture, due_of_kinds, reported_status, state_in};
+ghost use Rattle.vt100_c.specs.Due.{AnswersOrStays, IsAnswer, IsSomeAnd, any_screen, status_in};
 ghost use Rattle.vt100_c.specs.KeptText.{KeepsBoth, KeepsText};
 ghost use Rattle.vt100_c.specs.Log.{log_in};
 ghost use Rattle.vt100_c.specs.Sources.{screen_in};
@@ -64,7 +63,7 @@ pub extern "C" fn vt100_capture_screen(
     capture: &mut Handle,
     len: &mut usize,
 ) -> u8
-    ensures answer { IsAnswer (due_at_capture screen_in any_screen_is_due handle.old.held capture.old.held) result }
+    ensures answer { IsAnswer (due_at_capture screen_in any_screen handle.old.held capture.old.held) result }
     ensures nonempty { result ≡ out_of_memory → HoldAtCapture screen_in handle.old.held capture.old.held HaveText }
     ensures text { result ≡ ok → HoldAtCapture screen_in handle.old.held capture.old.held (λ screen state.
         HoldsCapture (basic_texts state (all_rows screen)) (written_after_all state (all_rows screen))
@@ -87,7 +86,7 @@ pub extern "C" fn vt100_capture_screen(
 /// passed the same handle twice, and the function returns `BAD_ARGUMENT`. Otherwise, it returns the
 /// status code of [`write_screen`].
 fn screen_beside(alloc: Global, object: &mut Object, handle: &mut Handle, len: &mut usize) -> u8
-    ensures answer { IsAnswer (due_beside_capture screen_in any_screen_is_due handle.old.held object.old) result }
+    ensures answer { IsAnswer (due_beside_capture screen_in any_screen handle.old.held object.old) result }
     ensures nonempty { result ≡ out_of_memory → HoldAtCapture screen_in handle.old.held (Some object.old) HaveText }
     ensures text { result ≡ ok → HoldAtCapture screen_in handle.old.held (Some object.old) (λ screen state.
         HoldsCapture (basic_texts state (all_rows screen)) (written_after_all state (all_rows screen))
@@ -108,7 +107,7 @@ fn screen_beside(alloc: Global, object: &mut Object, handle: &mut Handle, len: &
 /// a capture, or `OUT_OF_MEMORY` if the text cannot be allocated.
 fn write_screen(alloc: Global, object: &mut Object, from: &Source, len: &mut usize) -> u8
     ensures answer { IsAnswer
-        (due_of_kinds any_screen_is_due (screen_in from.now) (state_in object.old.source)) result }
+        (due_of_kinds any_screen (screen_in from.now) (state_in object.old.source)) result }
     ensures nonempty { result ≡ out_of_memory → OnCapture (screen_in from.now) (state_in object.old.source) HaveText }
     ensures text { result ≡ ok → OnCapture (screen_in from.now) (state_in object.old.source) (λ screen state.
         HoldsCapture (basic_texts state (all_rows screen)) (written_after_all state (all_rows screen))
@@ -130,7 +129,7 @@ fn screen_text(alloc: Global, screen: &Screen, capture: &mut Source) -> Result<S
         (λ screen state. string_bytes text ≡ basic_texts state (all_rows screen))) }
     ensures state { OnOk result (OnCapture (Some screen.now) (state_in capture.old)
         (λ screen state. capture.new ≡ Source.Capture (written_after_all state (all_rows screen)))) }
-    ensures answer { AnswersOrStays (due_of_kinds any_screen_is_due (Some screen.now) (state_in capture.old))
+    ensures answer { AnswersOrStays (due_of_kinds any_screen (Some screen.now) (state_in capture.old))
         result (capture.new ≡ capture.old) }
     ensures nonempty { status_in result ≡ out_of_memory → OnCapture (Some screen.now) (state_in capture.old) HaveText }
 {
@@ -284,9 +283,9 @@ fn event_text(
     state: &mut BasicFormattedCaptureState,
 ) -> Result<String, u8>
     ensures text { IfOk result
-        (λ text. OnRow (slice_get log.now.rows index) (λ row. string_bytes text ≡ basic_text state.old row)) }
+        (λ text. IsSomeAnd (slice_get log.now.rows index) (λ row. string_bytes text ≡ basic_text state.old row)) }
     ensures ok { OnOk result
-        (OnRow (slice_get log.now.rows index) (λ row. state.new ≡ written_after state.old row)) }
+        (IsSomeAnd (slice_get log.now.rows index) (λ row. state.new ≡ written_after state.old row)) }
     ensures answer { AnswersOrStays (reported_status index log.now) result (state.new ≡ state.old) }
 {
     match log.row(index) {

@@ -116,6 +116,32 @@ pub extern "C" fn vt100_state_diff(
     make(alloc, handle, prev, Difference::State, len)
 }
 
+/// Generates the escape sequences that turn the display and input modes of `prev` into those of
+/// `handle`'s screen, with options ([`vt100::Screen::state_diff_with`]). The bits of `options` are
+/// those of [`vt100_contents_diff_with`]. Stores the output in `handle` and its length in `len`.
+///
+/// # Errors
+///
+/// Returns `NO_OBJECT` if a handle is empty, `WRONG_KIND` if a handle holds neither a parser nor a
+/// saved screen, `OTHER_SIZE` if the two screens differ in size, `BAD_ARGUMENT` if the same handle
+/// is passed twice, or `OUT_OF_MEMORY` if the output cannot be allocated. On error, nothing is
+/// changed.
+#[unsafe(no_mangle)]
+pub extern "C" fn vt100_state_diff_with(
+    alloc: Global,
+    handle: &mut Handle,
+    prev: &mut Handle,
+    options: u8,
+    len: &mut usize,
+) -> u8
+    ensures answer { IsAnswer (due_at_both sizes_status handle.old.held prev.old.held) result }
+    ensures text { MakesDifference (between.StateWith (options_of options)) handle.old.held prev.old.held result handle.new.held }
+    ensures keeps { KeepsBoth handle.old.held prev.old.held result handle.new.held prev.new.held len.old len.new }
+{
+    let chosen = options_in(options);
+    make(alloc, handle, prev, Difference::StateWith(chosen), len)
+}
+
 /// Generates the escape sequences that change the input modes of `prev` to
 /// those of `handle`'s screen ([`vt100::Screen::input_mode_diff`]). Stores them
 /// in `handle` and their length in `len`.

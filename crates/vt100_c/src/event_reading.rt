@@ -2,8 +2,8 @@
 
 ghost use Rattle.std.specs.Prelude.{◌≡◌, IfSome, None, Some, drop, length, min, take};
 ghost use Rattle.vt100_c.specs.Calls.{OnSource};
-ghost use Rattle.vt100_c.specs.Due.{due_to};
-ghost use Rattle.vt100_c.specs.Log.{Empties, Limits, due_to_log, log_at, log_in, records_of, whole_of};
+ghost use Rattle.vt100_c.specs.Due.{due_to, due_to_held};
+ghost use Rattle.vt100_c.specs.Log.{Empties, Limits, log_at, log_in, records_of, whole_of};
 ghost use Rattle.vt100_c.specs.Records.{log_after_clear, nothing_logged};
 ghost use Rattle.vt100_c.specs.Status.{ok};
 
@@ -31,7 +31,7 @@ pub extern "C" fn vt100_events(
     is_whole: &mut u8,
 ) -> u8
     ensures same { handle.new.held ≡ handle.old.held }
-    ensures status { result ≡ due_to_log handle.old.held }
+    ensures status { result ≡ due_to_held log_in handle.old.held }
     ensures len { result ≡ ok → len.new ≡ length (records_of (log_at handle.old.held)) }
     ensures whole { result ≡ ok → is_whole.new ≡ whole_of (log_at handle.old.held) }
     ensures refused_len { ¬ (result ≡ ok) → len.new ≡ len.old }

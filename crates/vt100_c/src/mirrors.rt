@@ -2,15 +2,14 @@
 
 ghost use Rattle.std.specs.Prelude.{◌≡◌, IfSome, None, Some};
 ghost use Rattle.vt100_c.specs.Calls.{OnObject, OnSource};
-ghost use Rattle.vt100_c.specs.Due.{IsSomeAnd, due_to};
+ghost use Rattle.vt100_c.specs.Due.{HoldsOne, IsSomeAnd, due_to, due_to_held};
 ghost use Rattle.vt100_c.specs.Life.{Makes};
 ghost use Rattle.vt100_c.specs.Mirrors.{numbers};
 ghost use Rattle.vt100_c.specs.Sources.{mirror_in};
 ghost use Rattle.vt100_c.specs.Status.{ok};
-ghost use Rattle.vt100_c.specs.Viewing.{HoldsMirror, IsNewMirror, JoinsSource, LeavesSource};
-ghost use Rattle.vt100_c.specs.Viewing.{TellsCurrent, UpdatesObject, due_to_mirror};
+ghost use Rattle.vt100_c.specs.Viewing.{IsNewMirror, JoinsSource, LeavesSource, TellsCurrent, UpdatesObject};
 ghost use Rattle.vt100_c.specs.Texts.{options_of};
-ghost use Rattle.vt_mirror.specs.Calls.{Drawn, Scrolling, kind_with};
+ghost use Rattle.vt_mirror.specs.Calls.{default_options, scrolling_options};
 
 use crate::handle::Handle;
 use crate::lifecycle::{hold, size_of};
@@ -111,7 +110,7 @@ pub extern "C" fn vt100_update(
     cols: &mut u16,
     len: &mut usize,
 ) -> u8
-    ensures call { OnObject (UpdatesObject Drawn viewer
+    ensures call { OnObject (UpdatesObject default_options viewer
         (numbers rows.old cols.old len.old) (numbers rows.new cols.new len.new)) handle.old.held result handle.new.held }
     ensures refused { ¬ (result ≡ ok) → numbers rows.new cols.new len.new ≡ numbers rows.old cols.old len.old }
 {
@@ -140,7 +139,7 @@ pub extern "C" fn vt100_update_scrolling(
     cols: &mut u16,
     len: &mut usize,
 ) -> u8
-    ensures call { OnObject (UpdatesObject Scrolling viewer
+    ensures call { OnObject (UpdatesObject scrolling_options viewer
         (numbers rows.old cols.old len.old) (numbers rows.new cols.new len.new)) handle.old.held result handle.new.held }
     ensures refused { ¬ (result ≡ ok) → numbers rows.new cols.new len.new ≡ numbers rows.old cols.old len.old }
 {
@@ -155,8 +154,9 @@ pub extern "C" fn vt100_update_scrolling(
 
 /// Generates the next update for a viewer, as [`vt100_update`] does, with options for a diff
 /// ([`Mirror::update_with`]). Bit 0 of `options` allows a diff to begin by moving rows or columns,
-/// bit 1 allows REP, and bit 2 allows REP for printable ASCII characters only; the other bits are
-/// ignored. With bit 0, the update may be a full one, as with [`vt100_update_scrolling`].
+/// bit 1 allows REP, bit 2 allows REP for printable ASCII characters only, and bit 3 makes the
+/// update portable, whether it is a diff or a full update; the other bits are ignored. With bit 0,
+/// the update may be a full one, as with [`vt100_update_scrolling`].
 ///
 /// # Errors
 ///
@@ -171,7 +171,7 @@ pub extern "C" fn vt100_update_with(
     cols: &mut u16,
     len: &mut usize,
 ) -> u8
-    ensures call { OnObject (UpdatesObject (kind_with (options_of options)) viewer
+    ensures call { OnObject (UpdatesObject (options_of options) viewer
         (numbers rows.old cols.old len.old) (numbers rows.new cols.new len.new)) handle.old.held result handle.new.held }
     ensures refused { ¬ (result ≡ ok) → numbers rows.new cols.new len.new ≡ numbers rows.old cols.old len.old }
 {
@@ -199,8 +199,8 @@ pub extern "C" fn vt100_mirror_is_current(
     out: &mut u8,
 ) -> u8
     ensures same { handle.new.held ≡ handle.old.held }
-    ensures status { result ≡ due_to_mirror handle.old.held }
-    ensures current { result ≡ ok → HoldsMirror handle.old.held (TellsCurrent viewer out.new) }
+    ensures status { result ≡ due_to_held mirror_in handle.old.held }
+    ensures current { result ≡ ok → HoldsOne mirror_in handle.old.held (TellsCurrent viewer out.new) }
     ensures refused { ¬ (result ≡ ok) → out.new ≡ out.old }
 {
     if !handle.is_full() {
@@ -243,7 +243,7 @@ fn leave(source: &mut Source, viewer: u64) -> u8
 /// Generates the next update for a viewer of a mirror, as [`vt100_update`]
 /// does. Returns `WRONG_KIND` if the object is not a mirror.
 fn update(object: &mut Object, viewer: u64, rows: &mut u16, cols: &mut u16, len: &mut usize) -> u8
-    ensures call { UpdatesObject Drawn viewer
+    ensures call { UpdatesObject default_options viewer
         (numbers rows.old cols.old len.old) (numbers rows.new cols.new len.new) object.old result object.new }
     ensures refused { ¬ (result ≡ ok) → numbers rows.new cols.new len.new ≡ numbers rows.old cols.old len.old }
 {
@@ -268,7 +268,7 @@ fn update_scrolling(
     cols: &mut u16,
     len: &mut usize,
 ) -> u8
-    ensures call { UpdatesObject Scrolling viewer
+    ensures call { UpdatesObject scrolling_options viewer
         (numbers rows.old cols.old len.old) (numbers rows.new cols.new len.new) object.old result object.new }
     ensures refused { ¬ (result ≡ ok) → numbers rows.new cols.new len.new ≡ numbers rows.old cols.old len.old }
 {
@@ -294,7 +294,7 @@ fn update_with(
     cols: &mut u16,
     len: &mut usize,
 ) -> u8
-    ensures call { UpdatesObject (kind_with options) viewer
+    ensures call { UpdatesObject options viewer
         (numbers rows.old cols.old len.old) (numbers rows.new cols.new len.new) object.old result object.new }
     ensures refused { ¬ (result ≡ ok) → numbers rows.new cols.new len.new ≡ numbers rows.old cols.old len.old }
 {

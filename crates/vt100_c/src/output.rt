@@ -43,6 +43,10 @@ pub enum Text {
     /// The escape sequences that redraw the screen and set its input modes.
     State,
 
+    /// The escape sequences that redraw the screen, generated with the given options, and set its
+    /// input modes.
+    StateWith(RedrawOptions),
+
     /// The escape sequences that move the cursor and hide or show it.
     CursorState,
 
@@ -67,6 +71,10 @@ pub enum Difference {
 
     /// The escape sequences that change the display and the input modes.
     State,
+
+    /// The escape sequences that change the display, generated with the given options, and the
+    /// input modes.
+    StateWith(DiffOptions),
 
     /// The escape sequences that change the input modes.
     InputMode,
@@ -114,6 +122,7 @@ fn text_of(screen: &Screen, text: Text) -> Result<String, u8>
         Text::FormattedReset => or_status(screen.contents_formatted_reset()),
         Text::FormattedBasic => or_status(screen.contents_formatted_basic()),
         Text::State => or_status(screen.state_formatted()),
+        Text::StateWith(options) => or_status(screen.state_formatted_with(options)),
         Text::CursorState => or_status(screen.cursor_state_formatted()),
         Text::Attributes => or_status(screen.attributes_formatted()),
         Text::InputMode => or_status(screen.input_mode_formatted()),
@@ -198,6 +207,7 @@ fn difference_of(screen: &Screen, prev: &Screen, difference: Difference) -> Resu
         Difference::Scrolling => contents_diff_scrolling(screen, prev),
         Difference::With(options) => contents_diff_with(screen, prev, options),
         Difference::State => state_diff(screen, prev),
+        Difference::StateWith(options) => state_diff_with(screen, prev, options),
         Difference::InputMode => input_mode_diff(screen, prev),
     }
 }
@@ -280,6 +290,26 @@ fn state_diff(screen: &Screen, prev: &Screen) -> Result<String, u8>
         return Err(OTHER_SIZE);
     }
     or_status(screen.state_diff(prev))
+}
+
+/// Returns a diff with the given options: the escape sequences that turn the display and the input
+/// modes of `prev` into those of `screen`.
+///
+/// # Errors
+///
+/// Returns `OTHER_SIZE` if the two screens differ in size, or `OUT_OF_MEMORY` if an allocation
+/// fails.
+#[tactic(auto, using(crate::proofs::Refused::where_some))]
+fn state_diff_with(screen: &Screen, prev: &Screen, options: DiffOptions) -> Result<String, u8>
+    ensures text { IfOk result (λ made. IsDifference (between.StateWith options) screen.now prev.now (string_bytes made)) }
+    ensures answer { IsAnswer (sizes_status screen.now prev.now) (status_in result) }
+    ensures nonempty { status_in result ≡ out_of_memory → HasDifference (between.StateWith options) screen.now prev.now }
+    ensures refused { IfErr result (λ status. ¬ (status ≡ ok)) }
+{
+    if !is_sized_as(screen, prev) {
+        return Err(OTHER_SIZE);
+    }
+    or_status(screen.state_diff_with(prev, options))
 }
 
 /// Returns the escape sequences that change the input modes of `prev` to those

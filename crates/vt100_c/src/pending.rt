@@ -2,8 +2,8 @@
 //! command.
 
 ghost use Rattle.std.specs.Prelude.{◌≡◌, IfSome, None, Some};
-ghost use Rattle.vt100_c.specs.Due.{IsSomeAnd, due_to};
-ghost use Rattle.vt100_c.specs.Pending.{ArePending, HoldsParser, due_to_parser, parser_in};
+ghost use Rattle.vt100_c.specs.Due.{HoldsOne, IsSomeAnd, due_to, due_to_held};
+ghost use Rattle.vt100_c.specs.Pending.{ArePending, parser_in};
 ghost use Rattle.vt100_c.specs.Status.{ok};
 
 use crate::event_log::Events;
@@ -23,8 +23,8 @@ use vt100::Parser;
 #[unsafe(no_mangle)]
 pub extern "C" fn vt100_pending_len(alloc: Global, handle: &mut Handle, len: &mut usize) -> u8
     ensures same { handle.new.held ≡ handle.old.held }
-    ensures status { result ≡ due_to_parser handle.old.held }
-    ensures pending { result ≡ ok → HoldsParser handle.old.held (ArePending len.new) }
+    ensures status { result ≡ due_to_held parser_in handle.old.held }
+    ensures pending { result ≡ ok → HoldsOne parser_in handle.old.held (ArePending len.new) }
     ensures refused { ¬ (result ≡ ok) → len.new ≡ len.old }
 {
     if !handle.is_full() {

@@ -167,6 +167,29 @@ pub extern "C" fn vt100_state_formatted(alloc: Global, handle: &mut Handle, len:
     make(alloc, handle, Text::State, len)
 }
 
+/// Generates the escape sequences that redraw the screen, with options, and set its input modes
+/// ([`vt100::Screen::state_formatted_with`]). Bit 3 of `options` makes the redraw portable; the
+/// other bits are ignored. Stores them in the handle and their length in `len`.
+///
+/// # Errors
+///
+/// Returns `NO_OBJECT` if the handle is empty, `WRONG_KIND` if it holds neither a parser nor a saved
+/// screen, or `OUT_OF_MEMORY` if the output cannot be allocated. On error, nothing is changed.
+#[unsafe(no_mangle)]
+pub extern "C" fn vt100_state_formatted_with(
+    alloc: Global,
+    handle: &mut Handle,
+    options: u8,
+    len: &mut usize,
+) -> u8
+    ensures answer { IsAnswer (due_at any_screen handle.old.held) result }
+    ensures text { MakesText (text.StateWith (redraw_options_of options)) handle.old.held result handle.new.held }
+    ensures keeps { KeepsText handle.old.held result handle.new.held len.old len.new }
+{
+    let chosen = redraw_options_in(options);
+    make(alloc, handle, Text::StateWith(chosen), len)
+}
+
 /// Generates the escape sequences that move the cursor and hide or show it, for
 /// a terminal that already displays the rows of the screen
 /// ([`vt100::Screen::cursor_state_formatted`]). Stores them in the handle and

@@ -50,13 +50,12 @@ class LocalTerminal:
     def _update(self, screen: Screen) -> str:
         shown, self._shown = self._shown, screen
         if shown is None:
-            redraw = screen.contents_formatted(portable=True)
-            return _ENTER + TERMINAL_SETUP + redraw + screen.input_mode_formatted()
-        modes = screen.input_mode_diff(shown)
+            return _ENTER + TERMINAL_SETUP + screen.state_formatted(portable=True)
         if self._must_redraw or not shown.is_steady() or shown.size != screen.size:
             self._must_redraw = False
-            return TERMINAL_SETUP + screen.contents_formatted(portable=True) + modes
-        return screen.contents_diff_with(shown, portable=True) + modes
+            redraw = screen.contents_formatted(portable=True)
+            return TERMINAL_SETUP + redraw + screen.input_mode_diff(shown)
+        return screen.state_diff_with(shown, portable=True)
 
     def _write(self) -> None:
         try:

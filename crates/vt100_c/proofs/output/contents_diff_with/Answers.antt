@@ -7,4 +7,4 @@ returns-clause-text c =
     c.contents_diff_with.ensures.text c.contents_diff_with.ensures.controls c.contents_diff_with.ensures.rows
     c.contents_diff_with.ensures.again c.contents_diff_with.ensures.shorter c.contents_diff_with.ensures.redraw
     c.contents_diff_with.ensures.redraws c.contents_diff_with.ensures.empty c.contents_diff_with.ensures.none
-    c.or_status.ensures.text
+    c.contents_diff_with.ensures.portable c.or_status.ensures.text
