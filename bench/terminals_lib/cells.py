@@ -19,6 +19,11 @@ def cell_of(glyph, ink, paper, marks):
     return " ", ink if seen else "-", paper, seen
 
 
+def seen_cursor(row, col, is_visible, cols):
+    """Returns what can be seen of the cursor: while a wrap is pending, it is in the last column."""
+    return row, min(col, cols - 1), is_visible
+
+
 class Callbacks:
     """Callbacks of kitty's Screen, which do nothing."""
 
@@ -30,6 +35,8 @@ class Kitty:
     """A Screen of kitty, in this process."""
 
     tries, settle, repeats = 1, 0, True
+    # It fills erased cells with all attributes, where others use only the background.
+    blanks_have_marks, may_reach = True, False
 
     @staticmethod
     def is_there():
@@ -79,7 +86,7 @@ class Kitty:
     def display(self, _):
         """Returns the rows of cells, and below them the cursor."""
         rows = [self.row(self.screen.line(at)) for at in range(self.screen.lines)]
-        return [*rows, [(*self.cursor(), self.screen.cursor_visible)]]
+        return [*rows, [seen_cursor(*self.cursor(), self.screen.cursor_visible, self.cols)]]
 
     def end(self):
         pass
@@ -89,7 +96,7 @@ class XtermJs:
     """A terminal of xterm.js, in a process of node."""
 
     # REP of version 3.8.1 does not move the cursor.
-    tries, settle, repeats = 1, 0, False
+    tries, settle, repeats, blanks_have_marks, may_reach = 1, 0, False, False, False
     node, count = None, 0
 
     @staticmethod
@@ -131,7 +138,7 @@ class XtermJs:
     def display(self, raw):
         """Returns the rows of cells, and below them the cursor."""
         rows, cursor = json.loads(raw)
-        return [*([self.cell(*cell) for cell in row] for row in rows), [tuple(cursor)]]
+        return [*([self.cell(*cell) for cell in row] for row in rows), [seen_cursor(*cursor, len(rows[0]))]]
 
     def end(self):
         self.tell("end")

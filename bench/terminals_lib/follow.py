@@ -6,7 +6,7 @@ import time
 
 from causes import Widths, cause_of, differences
 from painting import painted
-from texts import KINDS, REPEATING, is_redraw, pair_of_updates, redraw_of, updates
+from texts import KINDS, MOVING, REPEATING, is_redraw, pair_of_updates, redraw_of, updates
 
 RESET = b"\x1bc\x1b[?25h"
 
@@ -40,10 +40,10 @@ class Terminals:
         repeats = self.make.repeats
         return [kind for kind in update.outputs if kind in wanted and (repeats or kind not in REPEATING)]
 
-    def cause(self, places, screens):
-        """Returns why cells differ."""
+    def cause(self, places, screens, kind):
+        """Returns why cells differ after output of a kind."""
         self.widths = self.widths or Widths(self.make)
-        return cause_of(places, screens, self.widths)
+        return cause_of(places, screens, self.widths, kind in MOVING)
 
     def begin(self):
         """Resets the terminals."""
@@ -58,7 +58,7 @@ class Terminals:
     def faults(self, number, update, before, wanted):
         """Returns the differences after an update, whose diffs the chains have read, and puts the chains right."""
         found = []
-        self.get("painting").read(painted(update))
+        self.get("painting").read(painted(update, self.make.blanks_have_marks))
         kinds = self.kinds(update, wanted)
         for kind in sorted(kinds, key=is_redraw, reverse=True):
             name = kind if is_redraw(kind) else redraw_of(kind)
@@ -67,7 +67,7 @@ class Terminals:
             other = self.get("painting" if is_redraw(kind) else name)
             places = differences(self.get(kind), other)
             if places:
-                cause = self.cause(places, (update, before or update))
+                cause = self.cause(places, (update, before or update), kind)
                 found.append(Fault(kind, cause, number, places, update))
             if places and not is_redraw(kind):
                 self.get(kind).read(RESET + update.outputs[name])

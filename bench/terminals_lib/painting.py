@@ -30,39 +30,43 @@ def move(row, col):
     return f"\x1b[{row + 1};{col + 1}H"
 
 
-def glyph_of(cell):
-    """Returns a cell's glyph and look. A blank is painted as a space, with nothing but its background."""
+def glyph_of(cell, has_marks):
+    """Returns a cell's glyph and look. A blank is painted as a space, with nothing but its background unless `has_marks`
+    is set.
+    """
     glyph, (ink, paper, marks) = cell
-    return (glyph, (ink, paper, marks)) if glyph else (" ", ("-", paper, 0))
+    return (glyph, (ink, paper, marks)) if glyph or has_marks else (" ", ("-", paper, 0))
 
 
-def painted_row(at, row):
+def painted_row(at, row, has_marks):
     """Paints a row. Each glyph after one that is not ASCII is reached by an absolute move."""
     out, before, is_sure = [move(at, 0)], None, True
     for col, cell in enumerate(row):
         if cell[0] is None:
             continue
-        glyph, look = glyph_of(cell)
+        glyph, look = glyph_of(cell, has_marks)
         out.append("" if is_sure else move(at, col))
         out.append("" if look == before else sgr(look))
-        out.append(glyph)
+        out.append(glyph or " ")
         before, is_sure = look, glyph.isascii()
     return "".join(out)
 
 
-def painted(update):
-    """Returns the painting of an update's screen, and then puts the cursor where the screen has it."""
+def painted(update, has_marks):
+    """Returns the painting of an update's screen, and then puts the cursor where the screen has it. If `has_marks` is set,
+    blanks are underlined and inverse where the terminal leaves them so when it erases cells with these attributes.
+    """
     out = ["\x1b[?25h\x1b[m\x1b[2J"]
     for at, row in enumerate(update.rows):
         if any(glyph or look != DEFAULT_LOOK for glyph, look in row):
-            out.append(painted_row(at, row))
+            out.append(painted_row(at, row, has_marks))
     row, col, hidden = update.cursor
     cells = update.rows[row]
     out.append("\x1b[m" + move(row, min(col, len(cells) - 1)))
     if col >= len(cells):
         # A pending wrap: the row's last glyph again.
         last = max(at for at, cell in enumerate(cells) if cell[0] is not None)
-        glyph, look = glyph_of(cells[last])
-        out.append(move(row, last) + sgr(look) + glyph + "\x1b[m")
+        glyph, look = glyph_of(cells[last], has_marks)
+        out.append(move(row, last) + sgr(look) + (glyph or " ") + "\x1b[m")
     out.append("\x1b[?25l" if hidden else "")
     return "".join(out).encode()

@@ -10,7 +10,7 @@ from windows import QUERY, SECONDS, Server, cells
 class Vte:
     """A terminal of VTE, which is drawn into a picture in memory."""
 
-    repeats, tries, settle = True, 25, 0
+    repeats, tries, settle, blanks_have_marks, may_reach = True, 25, 0, False, False
 
     @staticmethod
     def is_there():

@@ -87,7 +87,9 @@ def cells(lines, rows, cols):
 class Window:
     """A terminal in a window. It runs a command that passes on what is written to a pipe."""
 
-    repeats, tries, settle, program = True, 25, 0.15, None
+    repeats, tries, settle, program, blanks_have_marks = True, 25, 0.15, None, False
+    # Whether it draws glyphs that reach into the next cell.
+    may_reach = False
 
     @classmethod
     def is_there(cls):
@@ -184,7 +186,7 @@ class Xterm(Window):
 class St(Window):
     """st, the simple terminal."""
 
-    program = "stterm"
+    program, may_reach = "stterm", True
 
     def words(self, x, y):
         rows, cols = self.size

@@ -5,7 +5,7 @@ ghost use Rattle.std.specs.Prelude.{◌<◌};
 use anyhow::{Result, ensure};
 use std::alloc::Global;
 use std::num::NonZeroU16;
-use vt100::{DiffOptions, Parser, Repeat, Screen};
+use vt100::{DiffOptions, Parser, RedrawOptions, Repeat, Screen};
 
 /// The options of a diff that may move rows or columns first and may repeat any character with REP.
 pub const REPEATING: DiffOptions = DiffOptions {
@@ -29,8 +29,16 @@ pub const PORTABLE: DiffOptions = DiffOptions {
     portable: true,
 };
 
-/// The total length in bytes of each kind of diff between the same screens.
-#[derive(Clone, Copy)]
+/// The options of a portable diff with shorter cursor movements.
+pub const PORTABLE_SCROLLING: DiffOptions = DiffOptions {
+    scroll: true,
+    repeat: Repeat::Never,
+    portable: true,
+};
+
+/// The total length in bytes of each kind of diff between the same screens, and of the redraws of
+/// these screens.
+#[derive(Clone, Copy, Default)]
 pub struct Lengths {
     /// The total length in bytes of the output of `contents_diff`.
     pub plain: usize,
@@ -43,6 +51,18 @@ pub struct Lengths {
 
     /// The total length in bytes of the output of `contents_diff_with` with [`REPEATING_ASCII`].
     pub repeating_ascii: usize,
+
+    /// The total length in bytes of the output of `contents_diff_with` with [`PORTABLE`].
+    pub portable: usize,
+
+    /// The total length in bytes of the output of `contents_diff_with` with [`PORTABLE_SCROLLING`].
+    pub portable_scrolling: usize,
+
+    /// The total length in bytes of the output of `contents_formatted`.
+    pub redraws: usize,
+
+    /// The total length in bytes of the portable output of `contents_formatted_with`.
+    pub portable_redraws: usize,
 }
 
 /// The settings for parsing a file: the size of the terminal, and how many bytes are parsed between
@@ -75,12 +95,7 @@ impl Reading {
 fn sum(parser: &mut Parser, every: usize, bytes: &[u8]) -> Result<Lengths>
     requires { 0 < every }
 {
-    let mut sums = Lengths {
-        plain: 0,
-        scrolling: 0,
-        repeating: 0,
-        repeating_ascii: 0,
-    };
+    let mut sums = Lengths::default();
     let mut prev = parser.screen().clone()?;
     for piece in bytes.chunks(every) {
         parser.process(piece)?;
@@ -91,20 +106,42 @@ fn sum(parser: &mut Parser, every: usize, bytes: &[u8]) -> Result<Lengths>
 }
 
 impl Lengths {
-    /// Returns the totals after the lengths of the diffs from `prev` to `screen` have been added.
-    fn with(self, screen: &Screen, prev: &Screen) -> Result<Lengths> {
+    /// Returns the totals after the lengths of the redraws of `screen` and of the diffs from `prev`
+    /// to `screen` have been added.
+    fn with(mut self, screen: &Screen, prev: &Screen) -> Result<Lengths> {
         ensure!(screen.is_sized_as(prev), "another size");
-        Ok(Lengths {
-            plain: self.plain.saturating_add(screen.contents_diff(prev)?.len()),
-            scrolling: self
-                .scrolling
-                .saturating_add(screen.contents_diff_scrolling(prev)?.len()),
-            repeating: self
-                .repeating
-                .saturating_add(screen.contents_diff_with(prev, REPEATING)?.len()),
-            repeating_ascii: self
-                .repeating_ascii
-                .saturating_add(screen.contents_diff_with(prev, REPEATING_ASCII)?.len()),
-        })
+        let portable = RedrawOptions { portable: true };
+        add(&mut self.plain, screen.contents_diff(prev)?.len());
+        add(
+            &mut self.scrolling,
+            screen.contents_diff_scrolling(prev)?.len(),
+        );
+        add(
+            &mut self.repeating,
+            screen.contents_diff_with(prev, REPEATING)?.len(),
+        );
+        add(
+            &mut self.repeating_ascii,
+            screen.contents_diff_with(prev, REPEATING_ASCII)?.len(),
+        );
+        add(
+            &mut self.portable,
+            screen.contents_diff_with(prev, PORTABLE)?.len(),
+        );
+        add(
+            &mut self.portable_scrolling,
+            screen.contents_diff_with(prev, PORTABLE_SCROLLING)?.len(),
+        );
+        add(&mut self.redraws, screen.contents_formatted()?.len());
+        add(
+            &mut self.portable_redraws,
+            screen.contents_formatted_with(portable)?.len(),
+        );
+        Ok(self)
     }
+}
+
+/// Adds `more` to a sum, which stays at its maximum if it would overflow.
+fn add(sum: &mut usize, more: usize) {
+    *sum = sum.saturating_add(more);
 }

@@ -9,14 +9,14 @@
 //! that returned `true`.
 //!
 //! `tool_bench lengths ROWS COLS CAPACITY EVERY FILE` prints the total lengths in bytes of
-//! `contents_diff`, of `contents_diff_scrolling`, and of `contents_diff_with` with both options,
-//! for REP after any character and for REP after ASCII characters. One diff is taken after every
-//! EVERY bytes of FILE and one at its end. Each diff starts from the screen at the previous diff;
-//! the first diff starts from a new screen.
+//! `contents_diff`, of `contents_diff_scrolling`, of `contents_diff_with` with `scroll`, for REP after
+//! any character and for REP after ASCII characters, and of portable diffs without and with `scroll`,
+//! and those of redraws and portable redraws. One of each is taken after every EVERY bytes of FILE
+//! and one at its end. Each diff starts from the screen at the previous diff; the first diff starts
+//! from a new screen.
 //!
 //! `tool_bench texts ROWS COLS CAPACITY EVERY FILE` prints the same diffs, redraws of the same
-//! screens, portable diffs and redraws, and what these screens display: see `bench/tmux` and
-//! `bench/terminals`.
+//! screens, portable diffs and redraws, and what these screens display: see `bench/terminals`.
 //!
 //! `tool_bench mirror WHAT CALL ROWS COLS CAPACITY VIEWERS EVERY FILE` feeds FILE to a mirror with
 //! many viewers: see `bench/mirrors`.
@@ -93,7 +93,8 @@ fn measure<R: AllocGlobal + Files + Print>(rt: &R, words: &[String]) -> Result<(
 }
 
 /// Parses a file in chunks. If `what` is `texts`, prints the redraw and the diffs of the screen
-/// after each chunk. Otherwise, prints the total lengths of the diffs between successive screens.
+/// after each chunk. Otherwise, prints the total lengths of the redraws of these screens and of the
+/// diffs between successive screens.
 fn show_on_the_way<R: AllocGlobal + Files + Print>(
     rt: &R,
     what: &str,
@@ -109,8 +110,13 @@ fn show_on_the_way<R: AllocGlobal + Files + Print>(
         scrolling,
         repeating,
         repeating_ascii,
+        portable,
+        portable_scrolling,
+        redraws,
+        portable_redraws,
     } = reading.lengths(rt.alloc(), bytes.as_slice())?;
-    println!(rt; "{plain} {scrolling} {repeating} {repeating_ascii}")?;
+    print!(rt; "{plain} {scrolling} {repeating} {repeating_ascii} ")?;
+    println!(rt; "{portable} {portable_scrolling} {redraws} {portable_redraws}")?;
     Ok(())
 }
 

@@ -1,15 +1,15 @@
 //! The output of a screen for a second terminal, and what that terminal must display.
 
-use crate::lengths::{PORTABLE, REPEATING, REPEATING_ASCII, Reading};
+use crate::lengths::{PORTABLE, PORTABLE_SCROLLING, REPEATING, REPEATING_ASCII, Reading};
 use anyhow::{Result, ensure};
 use std::alloc::{AllocError, Global};
 use vt100::{Cell, Color, Parser, RedrawOptions, Screen};
 
-/// Prints a group of eight texts after every `every` bytes and at the end of the input:
+/// Prints a group of nine texts after every `every` bytes and at the end of the input:
 /// `contents_formatted`; `contents_diff`, `contents_diff_scrolling`, and `contents_diff_with` with
 /// [`REPEATING_ASCII`] and with [`REPEATING`], from the screen of the previous group (for the first
-/// group, a new screen); the portable redraw; the diff with [`PORTABLE`]; and the display of the
-/// screen.
+/// group, a new screen); the portable redraw; the diffs with [`PORTABLE`] and with
+/// [`PORTABLE_SCROLLING`]; and the display of the screen.
 ///
 /// Each group begins with a line that contains the cursor's row and column, counted from 0, whether
 /// the cursor is hidden, and the length of each text in bytes. Each group ends with a newline.
@@ -34,16 +34,31 @@ fn show<R: AllocGlobal + Print>(rt: &R, screen: &Screen, prev: &Screen) -> Resul
     let repeating = screen.contents_diff_with(prev, REPEATING)?;
     let portable = screen.contents_formatted_with(RedrawOptions { portable: true })?;
     let portable_diff = screen.contents_diff_with(prev, PORTABLE)?;
+    let moved = screen.contents_diff_with(prev, PORTABLE_SCROLLING)?;
     let shown = shown(rt.alloc(), screen)?;
+    let texts = [
+        redraw,
+        drawn,
+        scrolling,
+        ascii,
+        repeating,
+        portable,
+        portable_diff,
+        moved,
+        shown,
+    ];
     let (row, col) = screen.cursor_position();
     let hidden = screen.hide_cursor();
-    let (first, second) = (redraw.len(), drawn.len());
-    let (third, fourth) = (scrolling.len(), ascii.len());
-    let (fifth, sixth) = (repeating.len(), portable.len());
-    let (seventh, eighth) = (portable_diff.len(), shown.len());
-    print!(rt; "{row} {col} {hidden} {first} {second} {third} {fourth} {fifth} {sixth} ")?;
-    println!(rt; "{seventh} {eighth}")?;
-    println!(rt; "{redraw}{drawn}{scrolling}{ascii}{repeating}{portable}{portable_diff}{shown}")?;
+    print!(rt; "{row} {col} {hidden}")?;
+    for text in &texts {
+        let len = text.len();
+        print!(rt; " {len}")?;
+    }
+    println!(rt; "")?;
+    for text in &texts {
+        print!(rt; "{text}")?;
+    }
+    println!(rt; "")?;
     Ok(())
 }
 

@@ -1,6 +1,7 @@
 //! The calls that `tool_bench` can measure.
 
-use vt100::{DiffOptions, Error, Repeat, Screen};
+use crate::lengths::PORTABLE;
+use vt100::{DiffOptions, Error, RedrawOptions, Repeat, Screen};
 
 /// A call that `tool_bench` can measure.
 #[derive(Clone, Copy)]
@@ -11,8 +12,14 @@ pub enum Work {
     /// Writes the redraw of the screen.
     Formatted,
 
+    /// Writes the portable redraw of the screen.
+    PortableFormatted,
+
     /// Writes the diff from the earlier screen to the screen.
     Diff,
+
+    /// Writes the portable diff from the earlier screen to the screen.
+    PortableDiff,
 
     /// Writes the scrolling diff, which may move rows first, from the earlier screen to the screen.
     Scrolling,
@@ -48,7 +55,9 @@ impl Work {
         match name {
             "process" => Some(Work::Process),
             "formatted" => Some(Work::Formatted),
+            "portable-formatted" => Some(Work::PortableFormatted),
             "diff" => Some(Work::Diff),
+            "portable-diff" => Some(Work::PortableDiff),
             "scrolling" => Some(Work::Scrolling),
             "repeating" => Some(Work::Repeating),
             "same" => Some(Work::Same),
@@ -68,7 +77,9 @@ impl Work {
         match self {
             Work::Process | Work::AddRow | Work::AddColumn => Ok(0),
             Work::Formatted => Ok(screen.contents_formatted()?.len()),
+            Work::PortableFormatted => portable_redraw(screen),
             Work::Diff => difference(screen, prev),
+            Work::PortableDiff => portable_difference(screen, prev),
             Work::Scrolling => scrolling_difference(screen, prev),
             Work::Repeating => repeating_difference(screen, prev),
             Work::Same => difference(screen, screen),
@@ -83,6 +94,18 @@ impl Work {
 fn rows_of_copy(screen: &Screen) -> Result<usize, Error> {
     let (rows, _cols) = screen.clone()?.size();
     Ok(usize::from(rows.get()))
+}
+
+fn portable_redraw(screen: &Screen) -> Result<usize, Error> {
+    let options = RedrawOptions { portable: true };
+    Ok(screen.contents_formatted_with(options)?.len())
+}
+
+fn portable_difference(screen: &Screen, prev: &Screen) -> Result<usize, Error> {
+    if !screen.is_sized_as(prev) {
+        return Ok(0);
+    }
+    Ok(screen.contents_diff_with(prev, PORTABLE)?.len())
 }
 
 fn difference(screen: &Screen, prev: &Screen) -> Result<usize, Error> {
