@@ -30,7 +30,6 @@ use Rattle.vt_mirror.specs.Watching.{TakesSize, Watching}
 use Rattle.vt_mirror.specs.declared.update.Update.{Update}
 use Rattle.vt_mirror.specs.declared.update.Update.TheVariants.{Diff, Full}
 use Rattle.vt_mirror.proofs.Bookkeeping.{by_number, none_some}
-use Rattle.vt_mirror.proofs.Options.{sent_for}
 use Rattle.vt_mirror.proofs.Watching.{NotedBefore, before_equal, before_join, before_none, before_resize, before_same}
 use Rattle.vt_mirror.proofs.Watching.{takes_size}
 
@@ -104,9 +103,8 @@ heals_update does options self None (Full rows cols text) p q moves shows is sou
     heals_full does (form_with options) self rows cols (string_bytes text) p t.0 q is sound plain t.1 t.2
 heals_update does options self None (Diff text) p q moves shows is sound plain t = absurd is
 heals_update does options self (Some prev) (Diff text) p q moves shows is sound plain t =
-    let sent = sent_for options self prev (string_bytes text) is in
-    heals_diff does self prev (string_bytes text) p q (sent.again p.screen sound plain.screen) sent.size sent.redraws
-    sound plain (shows prev refl (sent.from_steady moves)) t
+    heals_diff does self prev (string_bytes text) p q (is.again p.screen sound plain.screen) is.size is.redraws sound plain
+    (shows prev refl (is.from_steady moves)) t
 heals_update does options self (Some prev) (Full rows cols text) p q moves shows is sound plain t =
     heals_full does (form_with options) self rows cols (string_bytes text) p t.0 q is.full sound plain t.1 t.2
 

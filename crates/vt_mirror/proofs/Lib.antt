@@ -4,7 +4,6 @@ pub mod Current
 pub mod Noted
 pub mod Alikes
 pub mod Sharing
-pub mod Options
 pub mod Updates
 pub mod Processing
 pub mod Watching

@@ -1,23 +1,28 @@
 -- The copies and stored texts of a mirror stay valid in each call.
-use Rattle.std.proofs.Common.{◌≡◌, ◌⊎◌, ℕ, Bool, true, false, List, [], Option, Some, None, inl, inr, refl, sym, ap, subst, arith}
+use Rattle.std.proofs.Common.{◌≡◌, ◌⊎◌, ◌-◌, ℕ, Bool, true, false, List, [], Option, Some, None, inl, inr, refl, sym, ap, subst, arith}
 use Rattle.std.specs.Prelude.{IfSome, IsTrue, string_bytes}
 use Rattle.vt_grid.specs.Page.{SameSize}
 use Rattle.vt_redraw.specs.Steady.{IsSteady}
+use Rattle.vt_redraw.specs.declared.form.Form.{Form}
 use Rattle.vt_redraw.specs.declared.form.Form.TheVariants.{Portable}
 use Rattle.vt_screen.specs.Again.{KeepsPlain}
-use Rattle.vt_screen.specs.MadeOf.{IsMadeOf, drawing_controls, drawing_finals, shortened_controls, shortened_finals}
+use Rattle.vt_screen.specs.Diffs.{IsDiff, diff_controls, diff_finals, finals_with, form_with}
+use Rattle.vt_screen.specs.MadeOf.{IsMadeOf, drawing_controls, drawing_finals}
 use Rattle.vt_screen.specs.Portable.{IsPortableAnywhere}
 use Rattle.vt_screen.specs.Screen.{IsColored, IsScreen, ScreenValue}
 use Rattle.vt_screen.specs.Shown.{IsReader, KeepsRest, Redraws, display, display_change, form_of, shown_text_in}
 use Rattle.vt_screen.specs.declared.diff_options.DiffOptions.{DiffOptions}
 use Rattle.vt_screen.proofs.Became.{difference_redraws}
 use Rattle.vt_screen.proofs.EqualTexts.{difference_none}
-use Rattle.vt_screen.proofs.MadeOf.{difference_made, made_nothing}
+use Rattle.vt_screen.proofs.Forms.{difference_none_in}
+use Rattle.vt_screen.proofs.MadeOf.{made_nothing}
 use Rattle.vt_screen.proofs.PlainAgain.{difference_keeps}
+use Rattle.vt_screen.proofs.Repeated.{repeats_itself}
+use Rattle.vt_screen.proofs.RepeatedDiffs.{to_may_repeat}
 use Rattle.vt_screen.proofs.TouchedTexts.{difference_touches}
 use Rattle.vt_screen.proofs.Viewing.{same_shown}
 use Rattle.vt100.specs.Parser.{ParserValue}
-use Rattle.vt_mirror.specs.Calls.{IsDiffFor, IsDrawn, Scrolls}
+use Rattle.vt_mirror.specs.Calls.{IsDiffFor}
 use Rattle.vt_mirror.specs.Kept.{HoldsDiff, IsKeptAs, IsRedrawKeptAs, KeptValue, no_texts}
 use Rattle.vt_mirror.specs.Mirror.{IsMirror}
 use Rattle.vt_mirror.specs.Sharing.{AreTexts, IsRedraw, IsSharing}
@@ -29,38 +34,42 @@ use Rattle.vt_mirror.proofs.Noted.{noted_none, noted_parser, own_size}
 
 -- ---- the diff of a screen from itself is empty
 
-pub unchanged : (self : ScreenValue) → IsScreen self → IsColored self → IsDrawn self self []
-unchanged self is colored =
+none_in : (form : Form) (scroll : Bool) (self : ScreenValue) → IsDiff form scroll self self []
+none_in form true self = inl (record {
+  plain = [];
+  moving = inl (inl (sym (difference_none_in form (display self) (display self) refl)));
+  short = record { same = λ reader is_reader. refl; shorter = omega arith };
+})
+none_in form false self = sym (difference_none_in form (display self) (display self) refl)
+
+pub none_for : (options : DiffOptions) (self : ScreenValue) → IsScreen self → IsColored self →
+    (options.scroll ≡ true → IsSteady (display self)) → IsDiffFor options self self []
+none_for options self is colored steady =
     let none : [] ≡ display_change self self = sym (difference_none (display self) (display self) refl) in
     let size = same_shown self self (own_size self.page) in
+    let again : KeepsPlain [] = subst KeepsPlain (sym none) (difference_keeps self self is colored colored) in
     record {
-      diff = record {
-        size = own_size self.page;
-        redraws = difference_redraws self self [] none is colored is colored size;
-        none = λ _. refl;
-        empty = λ _ _. refl;
-        again = subst KeepsPlain (sym none) (difference_keeps self self is colored colored);
-      };
-      is = none;
-      controls = subst (IsMadeOf drawing_finals drawing_controls) (sym none) (difference_made self self is colored colored);
-      touches = λ steady. difference_touches self self [] none is colored steady is colored size;
-    }
-
-pub unchanged_scrolling : (self : ScreenValue) → IsScreen self → IsColored self → IsSteady (display self) →
-    Scrolls self self []
-unchanged_scrolling self is colored steady =
-    let drawn = unchanged self is colored in
-    record {
-      diff = drawn.diff;
+      size = own_size self.page;
       from_steady = steady;
-      is = inl (record {
+      is = record {
         plain = [];
-        moving = inl (inl drawn.is);
-        short = record { same = λ reader is_reader. refl; shorter = omega arith };
-      });
-      controls = made_nothing shortened_finals shortened_controls;
+        diff = none_in (form_with options) options.scroll self;
+        controls = made_nothing (diff_finals options.scroll) (diff_controls options.scroll);
+        again = again;
+        touches = λ _ _ steady. difference_touches self self [] none is colored steady is colored size;
+        repeats =
+            to_may_repeat options.repeat self [] []
+            (repeats_itself options.repeat self.page.width (self.page.width - self.page.column) []);
+      };
+      controls = made_nothing (finals_with options.repeat options.scroll) (diff_controls options.scroll);
+      rows = λ reader reads. tt;
+      again = λ reader sound plain. again reader plain;
       shorter = omega arith;
-      redraw = omega arith;
+      redraw = λ moves. omega arith;
+      redraws = difference_redraws self self [] none is colored is colored size;
+      empty = λ _ _. refl;
+      none = λ _. refl;
+      portable = λ asked steady reader reads. tt;
     }
 
 -- ---- the kept values

@@ -1,22 +1,22 @@
 -- An update is the diff from the screen recorded for a viewer, or the redraw.
-use Rattle.std.proofs.Common.{◌≡◌, ℕ, true, List, Some, Option, Result, Ok, Err, sym, subst, ◌∙◌}
-use Rattle.std.specs.Prelude.{IfOk, String, string_bytes}
+use Rattle.std.proofs.Common.{◌≡◌, ℕ, Bool, true, false, List, None, Some, Option, Result, Ok, Err, refl, sym, subst, ◌∙◌}
+use Rattle.std.specs.Prelude.{IfOk, IsTrue, String, string_bytes}
 use Rattle.std.specs.Global.{Global}
 use Rattle.vt_cells.specs.declared.error.Error.{Error}
 use Rattle.vt_grid.specs.Page.{SameSize}
 use Rattle.vt_redraw.specs.Steady.{IsSteady}
+use Rattle.vt_redraw.specs.declared.form.Form.TheVariants.{Portable}
 use Rattle.vt_screen.specs.Diffs.{form_with}
 use Rattle.vt_screen.specs.Screen.{ScreenValue}
-use Rattle.vt_screen.specs.Shown.{display}
+use Rattle.vt_screen.specs.Shown.{display, form_of}
 use Rattle.vt_screen.specs.declared.diff_options.DiffOptions.{DiffOptions}
 use Rattle.vt_mirror.specs.Alike.{ShowsAlike}
-use Rattle.vt_mirror.specs.Calls.{IsDiffFor, IsFullUpdate, IsUpdate}
+use Rattle.vt_mirror.specs.Calls.{IsDiffFor, IsFullUpdate, IsPortableUpdate, IsUpdate}
 use Rattle.vt_mirror.specs.Mirror.{MirrorValue}
 use Rattle.vt_mirror.specs.Viewers.{note_of}
 use Rattle.vt_mirror.specs.declared.update.Update.{Update}
 use Rattle.vt_mirror.specs.declared.update.Update.TheVariants.{Diff, Full}
-use Rattle.vt_mirror.proofs.Alikes.{size_alike}
-use Rattle.vt_mirror.proofs.Options.{alike_by}
+use Rattle.vt_mirror.proofs.Alikes.{diff_alike, size_alike}
 
 same_some : {A : Type 0} (x y : A) → Some x ≡ Some y → x ≡ y
 same_some x y e = cc
@@ -35,7 +35,7 @@ copy_size self seen noted copy e alike size =
 pub diff_from : (options : DiffOptions) (self seen noted copy : ScreenValue) (text : List ℕ) → seen ≡ self →
     ShowsAlike noted copy → IsDiffFor options seen copy text → IsDiffFor options self noted text
 diff_from options self seen noted copy text e alike is =
-    alike_by options.portable options.repeat options.scroll options self noted copy text alike
+    diff_alike options self noted copy text alike
     (subst (λ (s : ScreenValue). IsDiffFor options s copy text) e is)
 
 pub diff_update : (options : DiffOptions) (inside mirror : MirrorValue) (viewer : ℕ) (noted : ScreenValue)
@@ -65,3 +65,18 @@ full_update options inside mirror viewer noted (Ok update) same e scrolls unstea
     (sym (subst (λ (m : MirrorValue). note_of m.viewers viewer ≡ Some noted) same e))
     (full_one options mirror.parser.screen noted update scrolls unsteady is)
 full_update options inside mirror viewer noted (Err error) same e scrolls unsteady is = tt
+
+-- ---- portable updates
+
+portable_form : (portable : Bool) → IsTrue portable → form_of portable ≡ Portable
+portable_form true is = refl
+portable_form false never = absurd cc
+
+pub portable_update : (options : DiffOptions) (self : ScreenValue) (noted : Option ScreenValue) (update : Update) →
+    IsTrue options.portable → IsUpdate options self noted update → IsPortableUpdate self noted update
+portable_update options self None (Full rows cols text) asked is = is.portable (portable_form options.portable asked)
+portable_update options self None (Diff text) asked is = absurd is
+portable_update options self (Some prev) (Full rows cols text) asked is =
+    is.full.portable (portable_form options.portable asked)
+portable_update options self (Some prev) (Diff text) asked is =
+    is.portable asked

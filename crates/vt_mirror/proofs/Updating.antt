@@ -153,7 +153,8 @@ full_text self (Some prev) update e is = absurd (no_some prev e)
 diff_text : (self prev : ScreenValue) (noted : Option ScreenValue) (update : Update) → noted ≡ Some prev →
     IsUpdate default_options self noted update → text_of_update update ≡ bytes_of_all (difference (display self) (display prev))
 diff_text self prev (Some other) (Diff text) e is =
-    is.is ∙ ap (λ (s : ScreenValue). bytes_of_all (difference (display self) (display s))) (same_some other prev e)
+    is.is.repeats
+    ∙ (is.is.diff ∙ ap (λ (s : ScreenValue). bytes_of_all (difference (display self) (display s))) (same_some other prev e))
 diff_text self prev (Some other) (Full rows cols text) e is = absurd (false≢true is.scrolls)
 diff_text self prev None update e is = absurd (no_some prev (sym e))
 

@@ -19,7 +19,7 @@ use Rattle.vt_screen.proofs.Viewing.{same_shown}
 use Rattle.vt100.specs.Parser.{ParserValue}
 use Rattle.vt100.specs.Pieces.{HasRead, IsPlainParser}
 use Rattle.vt100.proofs.Pieces.{read_pieces}
-use Rattle.vt_mirror.specs.Calls.{Asks, GivesUpdate, IsFull, IsUpdate, JoinsMirror, Resizes}
+use Rattle.vt_mirror.specs.Calls.{Asks, GivesUpdate, IsDiffFor, IsFull, IsUpdate, JoinsMirror, Resizes}
 use Rattle.vt_mirror.specs.Mirror.{MirrorValue}
 use Rattle.vt_mirror.specs.Viewers.{Puts, ViewersValue, next_number, note_of}
 use Rattle.vt_mirror.specs.Watching.{Ask, CountUp, Goes, IsFresh, IsLeft, IsNew, IsTakenBy, MirrorDoes, Watches}
@@ -28,7 +28,6 @@ use Rattle.vt_mirror.specs.Watching.{TakesUpdate, TakesSize, Watching, numbers_g
 use Rattle.vt_mirror.specs.declared.update.Update.{Update}
 use Rattle.vt_mirror.specs.declared.update.Update.TheVariants.{Diff, Full}
 use Rattle.vt_mirror.proofs.Bookkeeping.{by_number, none_some}
-use Rattle.vt_mirror.proofs.Options.{IsSent, sent_for}
 use Rattle.vt_screen.proofs.Sizing.{resized_is, resized_plain, resized_size}
 
 -- ---- the screen recorded for a number whose viewer gets no update: the same as before, or none
@@ -92,10 +91,10 @@ reads_redraw self Reader text p q steady r plain reader t =
       shows = ap display all.screen ∙ made.1;
     }
 
-reads_diff : {S : Type 0} (scroll : Bool) (self prev : ScreenValue) (text : List ℕ) (p q : ParserValue S)
-    → IsSent scroll self prev text → IsSteady (display self)
+reads_diff : {S : Type 0} (options : DiffOptions) (self prev : ScreenValue) (text : List ℕ) (p q : ParserValue S)
+    → IsDiffFor options self prev text → IsSteady (display self)
     → IsScreen p.screen → IsPlainParser p → display p.screen ≡ display prev → ReadsText text p q → Plainly self q
-reads_diff scroll self prev text p q diff steady sound plain shows t =
+reads_diff options self prev text p q diff steady sound plain shows t =
     reads_redraw self (IsReaderOf (display self) (display prev)) text p q steady diff.redraws plain (record {
       is = record {
         sound = sound;
@@ -155,9 +154,7 @@ takes_update : {S : Type 0} (options : DiffOptions) (self : ScreenValue) (noted 
     → IsUpdate options self noted update → IsSteady (display self) → IsScreen p.screen
     → IsPlainParser p → TakesUpdate update p q → Plainly self q
 takes_update options self (Some prev) (Diff text) p q shows is steady sound plain t =
-    reads_diff options.scroll self prev (string_bytes text) p q (sent_for options self prev (string_bytes text) is) steady
-    sound plain
-    (shows prev refl) t
+    reads_diff options self prev (string_bytes text) p q is steady sound plain (shows prev refl) t
 takes_update options self None (Full rows cols text) p q shows is steady sound plain t =
     reads_full (form_with options) self rows cols (string_bytes text) p t.0 q is steady sound plain t.1 t.2
 takes_update options self (Some prev) (Full rows cols text) p q shows is steady sound plain t =

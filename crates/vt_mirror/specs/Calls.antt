@@ -2,27 +2,22 @@
 use Rattle.std.specs.Prelude.{◌≡◌, ◌⊎◌, ℕ, ◌-◌, ◌^◌, ◌<◌, ◌≤◌, Bool, true, false, List, [], Option, Some, None, Err, Ok}
 use Rattle.std.specs.Prelude.{length, string_bytes, IfErr, IfOk, IsTrue}
 use Rattle.std.specs.declared.result.Result.{Result}
-use Rattle.vt_cells.specs.Op.{bytes_of_all}
 use Rattle.vt_cells.specs.declared.error.Error.{Error}
 use Rattle.vt_cells.specs.declared.error.Error.TheVariants.{NoNumber, OutOfMemory}
 use Rattle.vt_grid.specs.Page.{SameSize}
-use Rattle.vt_redraw.specs.Redraw.{difference}
 use Rattle.vt_redraw.specs.Steady.{IsSteady}
 use Rattle.vt_redraw.specs.declared.form.Form.{Form}
 use Rattle.vt_redraw.specs.declared.form.Form.TheVariants.{Portable}
 use Rattle.vt_screen.specs.Again.{KeepsPlain}
 use Rattle.vt_screen.specs.Diffs.{IsDiffWith, KeepsScreensPlain, RepeatsOnlyInRows}
 use Rattle.vt_screen.specs.Diffs.{diff_controls, finals_with, form_with}
-use Rattle.vt_screen.specs.MadeOf.{IsMadeOf, drawing_controls, drawing_finals, shortened_controls, shortened_finals}
+use Rattle.vt_screen.specs.MadeOf.{IsMadeOf, drawing_controls, drawing_finals}
 use Rattle.vt_screen.specs.Pages.{has_size, screen_after_resize}
 use Rattle.vt_screen.specs.Portable.{IsPortableAnywhere, IsPortableFrom}
 use Rattle.vt_screen.specs.Screen.{IsColored, IsScreen, ScreenValue}
-use Rattle.vt_screen.specs.ShortMoves.{IsMovingOrRedraw}
-use Rattle.vt_screen.specs.Shown.{IsReader, IsReaderOf, IsSameIfEmpty, KeepsRest, Redraws, RedrawsFrom}
-use Rattle.vt_screen.specs.Shown.{display, display_change_in, shown_text, shown_text_in}
-use Rattle.vt_screen.specs.Touched.{TouchesNear}
+use Rattle.vt_screen.specs.Shown.{IsReader, IsSameIfEmpty, KeepsRest, Redraws, RedrawsFrom}
+use Rattle.vt_screen.specs.Shown.{display, display_change_in, shown_text_in}
 use Rattle.vt_screen.specs.declared.diff_options.DiffOptions.{DiffOptions}
-use Rattle.vt_screen.specs.declared.repeat.Repeat.{Repeat}
 use Rattle.vt_screen.specs.declared.repeat.Repeat.TheVariants.{Never}
 use Rattle.vt100.specs.Calls.{ParserProcesses}
 use Rattle.vt100.specs.Parser.{does_nothing}
@@ -90,15 +85,6 @@ pub record IsFull (form : Form) (self : ScreenValue) (rows cols : ℕ) (text : L
   pub again : KeepsPlain text
   pub portable : form ≡ Portable → IsPortableAnywhere self text
 
--- The text is a diff between two screens of the same size. If both screens display the same content, the text is empty;
--- conversely, if the text is empty and the screen `self` is steady, both display the same content.
-pub record IsDiff (self prev : ScreenValue) (text : List ℕ) : Type 0 where
-  pub size : SameSize self.page prev.page
-  pub redraws : Redraws (display self) (IsReaderOf (display self) (display prev)) KeepsRest text
-  pub none : display self ≡ display prev → text ≡ []
-  pub empty : IsSameIfEmpty prev self text
-  pub again : KeepsPlain text
-
 -- The options of `Mirror::update`: the diff moves no rows or columns, contains no REP and need not be portable.
 abbrev pub default_options : DiffOptions
 default_options = record { scroll = false; repeat = Never; portable = false }
@@ -107,27 +93,9 @@ default_options = record { scroll = false; repeat = Never; portable = false }
 abbrev pub scrolling_options : DiffOptions
 scrolling_options = record { scroll = true; repeat = Never; portable = false }
 
--- The text is a diff that moves no rows or columns. If the screen `self` is steady, the diff touches only the positions
--- that `IsLocal` allows, which are near differences between the two screens.
-pub record IsDrawn (self prev : ScreenValue) (text : List ℕ) : Type 0 where
-  pub diff : IsDiff self prev text
-  pub is : text ≡ bytes_of_all (difference (display self) (display prev))
-  pub controls : IsMadeOf drawing_finals drawing_controls text
-  pub touches : TouchesNear prev self text
-
--- The text is a diff that may move rows or columns, with shortened cursor movements, or the redraw. The diff starts from
--- a steady screen and is never longer than the diff that moves no rows or columns, or than the redraw.
-pub record Scrolls (self prev : ScreenValue) (text : List ℕ) : Type 0 where
-  pub diff : IsDiff self prev text
-  pub from_steady : IsSteady (display prev)
-  pub is : IsMovingOrRedraw (display self) (display prev) text
-  pub controls : IsMadeOf shortened_finals shortened_controls text
-  pub shorter : length text ≤ length (bytes_of_all (difference (display self) (display prev)))
-  pub redraw : length text ≤ length (shown_text self)
-
--- The text is a diff with the given options, as `Screen::contents_diff_with` returns it. With `scroll`, the diff starts
--- from a steady screen.
-pub record IsChosen (options : DiffOptions) (self prev : ScreenValue) (text : List ℕ) : Type 0 where
+-- The text is a diff with the given options between two screens of the same size, as `Screen::contents_diff_with`
+-- returns it. With `scroll`, the diff starts from a steady screen.
+pub record IsDiffFor (options : DiffOptions) (self prev : ScreenValue) (text : List ℕ) : Type 0 where
   pub size : SameSize self.page prev.page
   pub from_steady : options.scroll ≡ true → IsSteady (display prev)
   pub is : IsDiffWith options prev self text
@@ -140,17 +108,6 @@ pub record IsChosen (options : DiffOptions) (self prev : ScreenValue) (text : Li
   pub empty : IsSameIfEmpty prev self text
   pub none : display self ≡ display prev → text ≡ []
   pub portable : IsTrue options.portable → IsPortableFrom prev self text
-
--- The text is a diff with the given options, whose fields are given first: the diff of `Mirror::update` or of
--- `Mirror::update_scrolling` for the options of these functions, otherwise a diff as `IsChosen` describes.
-abbrev pub IsDiffBy : (portable : Bool) (repeat : Repeat) (scroll : Bool) → DiffOptions → (self prev : ScreenValue) →
-    (text : List ℕ) → Type 0
-IsDiffBy false Never false options self prev text = IsDrawn self prev text
-IsDiffBy false Never true options self prev text = Scrolls self prev text
-IsDiffBy portable repeat scroll options self prev text = IsChosen options self prev text
-
-abbrev pub IsDiffFor : DiffOptions → (self prev : ScreenValue) → (text : List ℕ) → Type 0
-IsDiffFor options self prev text = IsDiffBy options.portable options.repeat options.scroll options self prev text
 
 abbrev pub IsFullUpdate : Form → (self : ScreenValue) → Update → Type 0
 IsFullUpdate form self (Full rows cols text) = IsFull form self rows cols (string_bytes text)

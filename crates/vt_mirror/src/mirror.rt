@@ -379,17 +379,8 @@ fn diff_between(screen: &Screen, prev: &Screen, options: DiffOptions) -> Result<
     ensures text { IfText result (IsDiffFor options screen.now prev.now) }
     ensures memory { OnlyOutOfMemory result }
 {
-    if options.portable || options.repeat != Repeat::Never {
-        let text = screen.contents_diff_with(prev, options)?;
-        return Ok(text);
-    }
-    // Only for the proof: the contracts of these functions say more than that of
-    // `contents_diff_with`, which returns the same.
-    if options.scroll {
-        let text = screen.contents_diff_scrolling(prev)?;
-        return Ok(text);
-    }
-    screen.contents_diff(prev)
+    let text = screen.contents_diff_with(prev, options)?;
+    Ok(text)
 }
 
 /// Returns a full update with the given text, a redraw in some form, and the size of the screen.

@@ -116,5 +116,6 @@ or_plain form self prev old new sound colored is moving has = record {
     empty = or_empty form self prev old new is has.empty;
     none = λ same. or_none form (display self) old new is (has.none same);
     portable = λ e. or_portable form self prev old new sound colored is (has.portable e) e;
+    touches = λ _ moves. absurd (cc);
   };
 }

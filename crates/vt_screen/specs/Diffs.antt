@@ -1,11 +1,12 @@
 -- Diffs with options: whether the diff may move rows and columns, and which characters may be repeated with REP.
 use Rattle.std.specs.Prelude.{◌≡◌, ◌-◌, ℕ, Bool, true, false, List, ◌∷◌}
-use Rattle.vt_screen.specs.Again.{LeavesPlain}
+use Rattle.vt_screen.specs.Again.{KeepsPlain, LeavesPlain}
 use Rattle.vt_screen.specs.MadeOf.{IsMadeOf, drawing_controls, drawing_finals, shortened_controls, shortened_finals}
 use Rattle.vt_screen.specs.Repeating.{Repeats, RepeatsInRows}
 use Rattle.vt_screen.specs.Screen.{IsScreen, ScreenValue}
 use Rattle.vt_screen.specs.ShortMoves.{IsMovingOrRedrawIn}
 use Rattle.vt_screen.specs.Shown.{IsPlain, IsReaderOf, display, display_change_in, form_of}
+use Rattle.vt_screen.specs.Touched.{TouchesNear}
 use Rattle.vt_redraw.specs.declared.form.Form.{Form}
 use Rattle.vt_screen.specs.declared.diff_options.DiffOptions.{DiffOptions}
 use Rattle.vt_screen.specs.declared.repeat.Repeat.{Repeat}
@@ -45,12 +46,15 @@ abbrev pub MayRepeat : Repeat → (was : ScreenValue) → (plain text : List ℕ
 MayRepeat Never was plain text = text ≡ plain
 MayRepeat repeat was plain text = Repeats repeat was.page.width (was.page.width - was.page.column) plain text
 
--- The output is a diff with the given options. It is made from a diff without REP, which contains only drawing
--- sequences, by writing runs with REP if the options allow it.
+-- The output is a diff with the given options. It is made from a diff without REP by writing runs with REP if the
+-- options allow it. The diff without REP contains only drawing sequences and leaves plain terminals plain. In the fixed
+-- form, and if it moves no rows or columns, it touches only positions near differences (`TouchesNear`).
 pub record IsDiffWith (options : DiffOptions) (was new : ScreenValue) (text : List ℕ) : Type 0 where
   pub plain : List ℕ
   pub diff : IsDiff (form_with options) options.scroll was new plain
   pub controls : IsMadeOf (diff_finals options.scroll) (diff_controls options.scroll) plain
+  pub again : KeepsPlain plain
+  pub touches : options.portable ≡ false → options.scroll ≡ false → TouchesNear was new plain
   pub repeats : MayRepeat options.repeat was plain text
 
 -- While a plain terminal that displays the screen `was` reads the output, each REP repeats its character only within

@@ -1,5 +1,5 @@
-use Rattle.std.proofs.Common.{string_bytes, refl}
-use Rattle.vt_screen.specs.Shown.{display}
+use Rattle.std.proofs.Common.{string_bytes, ap, refl}
+use Rattle.vt_screen.specs.Shown.{display, form_of}
 use Rattle.vt_screen.proofs.ContentTexts.{none_refused}
 use Rattle.vt_screen.specs.Diffs.{form_with}
 use Rattle.vt_screen.proofs.Forms.{difference_none_in}
@@ -13,6 +13,8 @@ returns-clause-text c =
       plain = string_bytes c.in_ok-plain.plain;
       diff = is.diff;
       controls = is.has.controls;
+      again = is.has.again;
+      touches = λ portable. is.has.touches (ap form_of portable);
       repeats = c.in_ok-text.ensures.text;
     }
 

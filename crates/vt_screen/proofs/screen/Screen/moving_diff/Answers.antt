@@ -47,4 +47,5 @@ returns-clause-has c =
       none = λ same. shorter_none form (display self) (display prev) text shorter same;
       portable = λ e steady. version_portable form (display self) prev old text e version (redraws.quiet steady)
           (moving_portable form self prev old d is.text e steady);
+      touches = λ _ moves. absurd (cc);
     }

@@ -7,6 +7,7 @@ use Rattle.vt_screen.specs.Shown.{display, display_change_in}
 use Rattle.vt_screen.proofs.Forms.{difference_keeps_in, difference_made_in, difference_none_in, difference_redraws_in}
 use Rattle.vt_screen.proofs.Forms.{difference_tells_in}
 use Rattle.vt_screen.proofs.PortableOutputs.{difference_is_portable}
+use Rattle.vt_screen.proofs.TouchedTexts.{difference_touches}
 use Rattle.vt_screen.proofs.Viewing.{same_shown}
 use Rattle.vt_screen.proofs.screen.Screen.ordinary_diff.Goals as goal
 
@@ -38,5 +39,8 @@ returns-in-Ok-clause-text c =
         portable = λ e. subst (IsPortableFrom prev self) (sym told)
             (subst (λ (f : Form). IsPortableFrom prev self (display_change_in f prev self)) (sym e)
             (difference_is_portable self prev written.whole written.colored written.other written.other_colored size));
+        touches = λ e _ steady. difference_touches self prev text
+            (told ∙ ap (λ (f : Form). display_change_in f prev self) e) written.whole written.colored steady
+            written.other written.other_colored size;
       };
     }
