@@ -29,6 +29,21 @@ def text_of(screen, prev, line):
     return " ".join([name, recorded.hexed(text)])
 
 
+def bytes_of(screen, prev, line):
+    """Returns the line that describes the output as bytes, if there is a method for that."""
+    name, *words = line.split(" ")
+    if name == "rows_formatted":
+        rows = screen.rows_formatted_bytes(int(words[0]), int(words[1]))
+        return " ".join([name, *words[:2], *(recorded.hexed(row.decode()) for row in rows)])
+    methods = {
+        "formatted": screen.contents_formatted_bytes,
+        "input": screen.input_mode_formatted_bytes,
+        "diff": lambda: screen.contents_diff_bytes(prev),
+        "input_diff": lambda: screen.input_mode_diff_bytes(prev),
+    }
+    return " ".join([name, recorded.hexed(methods[name]().decode())]) if name in methods else line
+
+
 class Replay(unittest.TestCase):
     maxDiff = None
 
@@ -39,6 +54,7 @@ class Replay(unittest.TestCase):
         for line in lines:
             if line.split(" ")[0] not in (*recorded.STATE, "<", "prev", "unsteady"):
                 self.assertEqual(text_of(screen, prev, line), line, name)
+                self.assertEqual(bytes_of(screen, prev, line), line, name)
         rows = screen.rows()
         wrapped = [screen.row_wrapped(row) for row in range(screen.lines)]
         self.assertEqual(vt100._find.contents_of(rows, wrapped)[0], screen.contents(), name)

@@ -113,6 +113,9 @@ class Integers(unittest.TestCase):
                 self.parser.state_diff_with(before, repeat=wrong)
             with self.assertRaisesRegex(TypeError, "repeat must be a Repeat"):
                 mirror.update_with(viewer, repeat=wrong)
+            for difference in (self.parser.contents_diff_bytes, self.parser.state_diff_bytes):
+                with self.assertRaisesRegex(TypeError, "repeat must be a Repeat"):
+                    difference(before, repeat=wrong)
 
     def test_messages_name_the_argument(self):
         with self.assertRaisesRegex(ValueError, "cols must be from 1 to 65535, not 65616"):
@@ -122,8 +125,10 @@ class Integers(unittest.TestCase):
             (lambda: self.parser.cells(5), "row must be from 0 to 4, not 5"),
             (lambda: self.parser.row_wrapped(9), "row must be from 0 to 4, not 9"),
             (lambda: self.parser.rows_formatted(20), "start must be .* from 0 to 19, not 20"),
+            (lambda: self.parser.rows_formatted_bytes(20), "start must be .*, not 20"),
             (lambda: self.parser.contents_between(0, 30, 1, 3), "start_col must be .*, not 30"),
             (lambda: mirror.update(7), "there is no viewer 7"),
+            (lambda: mirror.update_bytes(7), "there is no viewer 7"),
             (lambda: mirror.leave(7), "there is no viewer 7"),
         ):
             with self.assertRaisesRegex(ValueError, message):
@@ -231,16 +236,21 @@ class Statuses(unittest.TestCase):
             parser.contents_diff_with,
             parser.state_diff,
             parser.state_diff_with,
+            parser.contents_diff_bytes,
+            parser.state_diff_bytes,
             parser.rows_diff,
         ):
             with self.assertRaisesRegex(vt100.Error, "different sizes"):
                 difference(other)
         self.assertEqual(parser.input_mode_diff(other), "")
+        self.assertEqual(parser.input_mode_diff_bytes(other), b"")
 
     def test_only_screens_have_differences(self):
         for other in (None, "text", vt100.Mirror(2, 3)):
             with self.assertRaises(TypeError):
                 vt100.Parser(2, 3).contents_diff(other)
+            with self.assertRaises(TypeError):
+                vt100.Parser(2, 3).contents_diff_bytes(other)
 
     def test_a_closed_object_raises_errors(self):
         with vt100.Parser(2, 3) as parser:

@@ -1,6 +1,7 @@
 """Tests of mirrors and their viewers."""
 
 import unittest
+from unittest import mock
 
 import vt100
 
@@ -49,6 +50,70 @@ class Viewers(unittest.TestCase):
             mirror.update_with(first, portable=True), vt100.Update("\x1b[m\x1b[2mc")
         )
         self.assertEqual(mirror.update(second), vt100.Update("\x1b[2mc"))
+
+    def test_updates_may_be_bytes(self):
+        mirror = vt100.Mirror(2, 20)
+        mirror.process(b"\x1b[2ma\x1b[22;1mb")
+        first, second = mirror.join(), mirror.join()
+        clear, size = b"\x1b[?25h\x1b[m\x1b[H\x1b[J", vt100.Size(2, 20)
+        for viewer, portable, text in (
+            (first, True, b"\x1b[2ma\x1b[m\x1b[1mb"),
+            (second, False, b"\x1b[2ma\x1b[1mb"),
+        ):
+            update = mirror.update_bytes(viewer, portable=portable)
+            self.assertEqual(update, vt100.BytesUpdate(clear + text, size))
+        mirror.process(b"\x1b[22;2mc")
+        update = mirror.update_bytes(first, portable=True)
+        self.assertEqual(update, vt100.BytesUpdate(b"\x1b[m\x1b[2mc"))
+        self.assertEqual(mirror.update_bytes(second), vt100.BytesUpdate(b"\x1b[2mc"))
+
+    def test_updates_as_bytes_have_the_other_options(self):
+        mirror = vt100.Mirror(4, 10)
+        viewer = mirror.join()
+        mirror.update_bytes(viewer, scroll=True)
+        mirror.process("---------\r\n─────────\r\nccccccccc\r\nddddddddd".encode())
+        update = mirror.update_bytes(viewer, repeat=vt100.Repeat.ANY)
+        text = "-\x1b[8b\r\n─\x1b[8b\r\nc\x1b[8b\r\nd\x1b[8b"
+        self.assertEqual(update, vt100.BytesUpdate(text.encode()))
+        mirror.process(b"\r\neeeeeeeee")
+        update = mirror.update_bytes(viewer, scroll=True)
+        self.assertEqual(update, vt100.BytesUpdate(b"\x1b[H\x1b[M\n\n\neeeeeeeee"))
+
+    def test_a_wrong_argument_takes_no_update(self):
+        mirror = vt100.Mirror(2, 20)
+        viewer = mirror.join()
+        mirror.update_bytes(viewer)
+        mirror.process(b"a")
+        for wrong in (viewer + 1, -1, 1 << 64):
+            with self.assertRaises(ValueError):
+                mirror.update_bytes(wrong)
+        for wrong in ({"repeat": 2}, {"repeat": None}, {"as_bytes": True}):
+            with self.assertRaises(TypeError):
+                mirror.update_bytes(viewer, **wrong)
+        with self.assertRaises(TypeError):
+            mirror.update_bytes("0")
+        self.assertEqual(mirror.update_bytes(viewer), vt100.BytesUpdate(b"a"))
+
+    def test_bytes_belong_to_one_update(self):
+        every_byte = [bytes([number]) for number in range(256)]
+        mirror = vt100.Mirror(1, 20)
+        viewer = mirror.join()
+        mirror.update_bytes(viewer)
+        made = []
+        for letter in (b"a", b"b", b"", b"c", b""):
+            mirror.process(letter)
+            made.append(mirror.update_bytes(viewer).data)
+        self.assertEqual(made, [b"a", b"b", b"", b"c", b""])
+        self.assertEqual([data[0] for data in every_byte], [*range(256)])
+
+    def test_bytes_are_copied_without_a_means_to_write_into_them(self):
+        mirror = vt100.Mirror(1, 20)
+        viewer = mirror.join()
+        mirror.update_bytes(viewer)
+        mirror.process("ä".encode())
+        with mock.patch("vt100._object._new_bytes", None):
+            self.assertEqual(mirror.update_bytes(viewer), vt100.BytesUpdate("ä".encode()))
+            self.assertEqual(mirror.update_bytes(viewer), vt100.BytesUpdate(b""))
 
     def test_a_viewer_may_join_late(self):
         mirror = vt100.Mirror(2, 10)

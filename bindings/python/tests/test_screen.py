@@ -215,8 +215,8 @@ class Texts(unittest.TestCase):
     def test_rows_are_drawn_one_by_one(self):
         screen = screen_of(b"a\x1b[31mb\x1b[m\r\n\x1b[7mcd", 2, 5)
         target = vt100.Parser(2, 5)
-        for row, text in enumerate(screen.rows_formatted()):
-            target.process(b"\x1b[%dH\x1b[m" % (row + 1) + text.encode())
+        for row, data in enumerate(screen.rows_formatted_bytes()):
+            target.process(b"\x1b[%dH\x1b[m" % (row + 1) + data)
         self.assertEqual(target.buffer, screen.buffer)
         prev = screen.save()
         screen.process(b"\x1b[m\x1b[Hx\x1b[2;5Hy")
@@ -240,6 +240,8 @@ class Texts(unittest.TestCase):
             self.assertEqual(second, first)
         self.assertEqual(first.contents_diff(first), "")
         self.assertEqual(first.state_diff(first), "")
+        self.assertEqual(first.contents_diff_bytes(first), b"")
+        self.assertEqual(first.state_diff_bytes(first), b"")
 
     def test_rows_move_if_that_is_shorter(self):
         parser = screen_of(b"aaaaaaaaa\r\nbbbbbbbbb\r\nccccccccc\r\nddddddddd", 4, 10)
@@ -247,6 +249,7 @@ class Texts(unittest.TestCase):
         parser.process(b"\r\neeeeeeeee")
         moved = parser.contents_diff_scrolling(before)
         self.assertEqual(moved, "\x1b[H\x1b[M\n\n\neeeeeeeee")
+        self.assertEqual(parser.contents_diff_bytes(before, scroll=True), moved.encode())
         self.assertLess(len(moved), len(parser.contents_diff(before)))
 
     def test_runs_are_repeated_if_the_options_allow_it(self):
@@ -259,6 +262,7 @@ class Texts(unittest.TestCase):
             (vt100.Repeat.ANY, "-\x1b[9b\r\n─\x1b[3b"),
         ):
             self.assertEqual(parser.contents_diff_with(before, repeat=repeat), text)
+            self.assertEqual(parser.contents_diff_bytes(before, repeat=repeat), text.encode())
         self.assertEqual(parser.contents_diff_with(before), parser.contents_diff(before))
         self.assertEqual(parser.contents_diff_with(before, scroll=True), "----------\r\n────")
 
@@ -277,8 +281,12 @@ class Texts(unittest.TestCase):
             clear = "\x1b[?25h\x1b[m\x1b[H\x1b[J"
             self.assertEqual(parser.contents_formatted(), clear + text)
             self.assertEqual(parser.contents_formatted(portable=True), clear + portable)
+            data = parser.contents_formatted_bytes(portable=True)
+            self.assertEqual(data, (clear + portable).encode())
             self.assertEqual(parser.contents_diff_with(before), text)
             self.assertEqual(parser.contents_diff_with(before, portable=True), portable)
+            data = parser.contents_diff_bytes(before, portable=True)
+            self.assertEqual(data, portable.encode())
 
     def test_states_have_options_and_modes(self):
         screen = screen_of(b"", 2, 20)
@@ -295,6 +303,11 @@ class Texts(unittest.TestCase):
             screen.state_diff_with(before, repeat=vt100.Repeat.ASCII, portable=True),
             f"-\x1b[9b\r\n{dim_then_bold}{modes}",
         )
+        self.assertEqual(
+            screen.state_diff_bytes(before, repeat=vt100.Repeat.ASCII, portable=True),
+            f"-\x1b[9b\r\n{dim_then_bold}{modes}".encode(),
+        )
+        self.assertEqual(screen.input_mode_diff_bytes(before), modes.encode())
         clear = "\x1b[?25h\x1b[m\x1b[H\x1b[J"
         self.assertEqual(
             screen.state_formatted(portable=True),
@@ -303,6 +316,10 @@ class Texts(unittest.TestCase):
         self.assertEqual(
             screen.state_formatted(),
             f"{clear}----------\r\n\x1b[2ma\x1b[1mb\x1b=\x1b[?1l\x1b[?2004h",
+        )
+        self.assertEqual(
+            screen.state_formatted_bytes(portable=True),
+            f"{clear}----------\r\n{dim_then_bold}\x1b=\x1b[?1l\x1b[?2004h".encode(),
         )
 
     def test_the_whole_state_is_drawn(self):

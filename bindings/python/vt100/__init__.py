@@ -42,7 +42,7 @@ from ._terminal import TERMINAL_RESTORE, TERMINAL_SETUP
 from ._version import __version__
 from .callbacks import Callbacks
 from .capture import Capture, RowContents
-from .mirror import Mirror, Update
+from .mirror import BytesUpdate, Mirror, Update
 from .parser import Parser
 from .replies import Replies
 from .screen import Screen
@@ -50,6 +50,7 @@ from .screen import Screen
 __all__ = [
     "Attributes",
     "BytesLike",
+    "BytesUpdate",
     "Callbacks",
     "Capture",
     "Cell",

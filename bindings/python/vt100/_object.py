@@ -6,6 +6,7 @@ import array
 import ctypes
 import mmap
 import os
+import sys
 import threading
 import weakref
 from types import TracebackType
@@ -28,6 +29,27 @@ def as_bytes(data: BytesLike) -> bytes:
     except TypeError:
         kind = type(data).__name__
         raise TypeError(f"a bytes-like object is required, not {kind!r}") from None
+
+
+if sys.implementation.name == "cpython":
+    #: A prototype of its own: other packages may set that of the function in `ctypes.pythonapi`.
+    _new_bytes: Any = ctypes.PYFUNCTYPE(ctypes.py_object, ctypes.c_char_p, ctypes.c_ssize_t)(
+        ("PyBytes_FromStringAndSize", ctypes.pythonapi)
+    )
+else:
+    _new_bytes = None
+
+
+def _copied_text(handle: Any, length: int) -> bytes:
+    """Returns the text that the last call has generated. On CPython, the library writes it into the
+    object that is returned, as an extension module may with one that it has just created."""
+    if _new_bytes is None or length == 0:  # all empty objects are the same one
+        room = ctypes.create_string_buffer(length)
+        library.vt100_copy(handle, room, length)
+        return room.raw
+    made: bytes = _new_bytes(None, length)
+    library.vt100_copy(handle, made, length)
+    return made
 
 
 #: All objects by their ids. Each is locked during a fork.
@@ -100,9 +122,7 @@ class Object:
         length = ctypes.c_size_t()
         with self._lock:
             self._call(function, *arguments, ctypes.byref(length), wrong=wrong)
-            room = ctypes.create_string_buffer(length.value)
-            library.vt100_copy(self._at, room, length)
-        return room.raw
+            return _copied_text(self._at, length.value)
 
     def _text(self, function: Any, *arguments: Any, wrong: str = "") -> str:
         """Returns the text that a function of the library generates, as a string."""

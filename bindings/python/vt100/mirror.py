@@ -3,7 +3,7 @@
 from __future__ import annotations
 
 import ctypes
-from typing import Any, NamedTuple, Optional, SupportsIndex
+from typing import Any, NamedTuple, Optional, SupportsIndex, Tuple
 
 from ._cells import Size
 from ._library import MAX_SIZE, MAX_U64, check, in_range, library, size_in_range
@@ -16,6 +16,13 @@ class Update(NamedTuple):
     resized first. The size is None if the update is a diff."""
 
     text: str
+    size: Optional[Size] = None
+
+
+class BytesUpdate(NamedTuple):
+    """An `Update` whose escape sequences are encoded as UTF-8."""
+
+    data: bytes
     size: Optional[Size] = None
 
 
@@ -98,6 +105,19 @@ class Mirror(Object):
         options = diff_options(scroll, repeat, portable)
         return self._update(library.vt100_update_with, viewer, options)
 
+    def update_bytes(
+        self,
+        viewer: SupportsIndex,
+        *,
+        scroll: bool = False,
+        repeat: Repeat = Repeat.NEVER,
+        portable: bool = False,
+    ) -> BytesUpdate:
+        """Returns the next update of a viewer like `update_with`, but as bytes, without making a
+        string first."""
+        options = diff_options(scroll, repeat, portable)
+        return BytesUpdate(*self._update_parts(library.vt100_update_with, viewer, options))
+
     def is_current(self, viewer: SupportsIndex) -> bool:
         """Returns whether a viewer is known to be up to date. If it is, its next update is an empty
         diff, except that `update_scrolling` and the option `scroll` redraw a screen that is not
@@ -113,12 +133,18 @@ class Mirror(Object):
         return current.value == 1
 
     def _update(self, function: Any, viewer: SupportsIndex, *options: int) -> Update:
+        data, size = self._update_parts(function, viewer, *options)
+        return Update(data.decode(), size)
+
+    def _update_parts(
+        self, function: Any, viewer: SupportsIndex, *options: int
+    ) -> Tuple[bytes, Optional[Size]]:
         number = in_range("viewer", viewer, 0, MAX_U64)
         rows, cols = ctypes.c_uint16(), ctypes.c_uint16()
         size = ctypes.byref(rows), ctypes.byref(cols)
         wrong = f"there is no viewer {number}"
-        text = self._text(function, number, *options, *size, wrong=wrong)
-        return Update(text, Size(rows.value, cols.value) if rows.value else None)
+        data = self._bytes(function, number, *options, *size, wrong=wrong)
+        return data, Size(rows.value, cols.value) if rows.value else None
 
     def __repr__(self) -> str:
         name = f"{type(self).__module__}.{type(self).__qualname__}"

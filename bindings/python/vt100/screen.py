@@ -259,6 +259,12 @@ class Screen(HasState):
         screen."""
         return self._row_texts(library.vt100_rows_formatted, start, width)
 
+    def rows_formatted_bytes(
+        self, start: _Index = 0, width: Optional[_Index] = None
+    ) -> List[bytes]:
+        """Returns `rows_formatted` encoded as UTF-8, without making strings first."""
+        return self._row_bytes(library.vt100_rows_formatted, start, width)
+
     def rows_diff(
         self, prev: Screen, start: _Index = 0, width: Optional[_Index] = None
     ) -> List[str]:
@@ -271,6 +277,11 @@ class Screen(HasState):
     def _row_texts(
         self, function: Any, start: _Index, width: Optional[_Index], *before: Any
     ) -> List[str]:
+        return [row.decode() for row in self._row_bytes(function, start, width, *before)]
+
+    def _row_bytes(
+        self, function: Any, start: _Index, width: Optional[_Index], *before: Any
+    ) -> List[bytes]:
         start = in_range("start", start, 0, MAX_U16)
         with self._lock:
             state = self._state
@@ -279,7 +290,7 @@ class Screen(HasState):
             wrong = f"start must be a column of the screen, from 0 to {state.cols - 1}, not {start}"
             text = self._bytes(function, *before, start, cols, ends, state.rows, wrong=wrong)
         starts = [0, *ends[:-1]]
-        return [text[begin:end].decode() for begin, end in zip(starts, ends)]
+        return [text[begin:end] for begin, end in zip(starts, ends)]
 
     # Redraws and diffs
 
@@ -380,9 +391,52 @@ class Screen(HasState):
         screen. The screens may have different sizes."""
         return self._diff(library.vt100_input_mode_diff, prev)
 
+    def contents_formatted_bytes(self, *, portable: bool = False) -> bytes:
+        """Returns `contents_formatted` encoded as UTF-8, without making a string first."""
+        return self._bytes(library.vt100_contents_formatted_with, redraw_options(portable))
+
+    def state_formatted_bytes(self, *, portable: bool = False) -> bytes:
+        """Returns `state_formatted` encoded as UTF-8, without making a string first."""
+        return self._bytes(library.vt100_state_formatted_with, redraw_options(portable))
+
+    def input_mode_formatted_bytes(self) -> bytes:
+        """Returns `input_mode_formatted` encoded as UTF-8, without making a string first."""
+        return self._bytes(library.vt100_input_mode_formatted)
+
+    def contents_diff_bytes(
+        self,
+        prev: Screen,
+        *,
+        scroll: bool = False,
+        repeat: Repeat = Repeat.NEVER,
+        portable: bool = False,
+    ) -> bytes:
+        """Returns `contents_diff_with` encoded as UTF-8, without making a string first."""
+        options = diff_options(scroll, repeat, portable)
+        return self._diff_bytes(library.vt100_contents_diff_with, prev, options)
+
+    def state_diff_bytes(
+        self,
+        prev: Screen,
+        *,
+        scroll: bool = False,
+        repeat: Repeat = Repeat.NEVER,
+        portable: bool = False,
+    ) -> bytes:
+        """Returns `state_diff_with` encoded as UTF-8, without making a string first."""
+        options = diff_options(scroll, repeat, portable)
+        return self._diff_bytes(library.vt100_state_diff_with, prev, options)
+
+    def input_mode_diff_bytes(self, prev: Screen) -> bytes:
+        """Returns `input_mode_diff` encoded as UTF-8, without making a string first."""
+        return self._diff_bytes(library.vt100_input_mode_diff, prev)
+
     def _diff(self, function: Any, prev: Screen, *options: int) -> str:
+        return self._diff_bytes(function, prev, *options).decode()
+
+    def _diff_bytes(self, function: Any, prev: Screen, *options: int) -> bytes:
         with self._and(prev) as other:
-            return self._text(function, other._at, *options)
+            return self._bytes(function, other._at, *options)
 
     @contextlib.contextmanager
     def _and(self, other: Screen) -> Iterator[Screen]:
