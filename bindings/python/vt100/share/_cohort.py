@@ -54,7 +54,7 @@ class Cohort:
         self.has_changed = False
         self._mirror = Mirror(rows, cols)
         self._viewer = self._mirror.join()
-        self._mirror.update_scrolling(self._viewer)
+        self._mirror.update_bytes(self._viewer, scroll=True)
         #: The screen of the present version.
         self.screen = self.parser.shown_copy()
         self._pending = bytearray()
@@ -99,14 +99,14 @@ class Cohort:
         self.history.take(self.parser)
         self._mirror.process(self._pending)
         self._pending.clear()
-        text, size = self._mirror.update_scrolling(self._viewer)
-        text += self.parser.input_mode_diff(self.screen)
-        if size is None and not text:
+        data, size = self._mirror.update_bytes(self._viewer, scroll=True)
+        data += self.parser.input_mode_diff_bytes(self.screen)
+        if size is None and not data:
             return  # nothing has changed that viewers see
         self._redraw = None
         self._made.clear()
         if size is None:
-            self._updates[self.version] = text.encode()
+            self._updates[self.version] = data
             self._updates.pop(self.version - KEPT, None)
         else:
             # The version before was not steady: everyone gets a redraw, which corrects it.
@@ -132,9 +132,9 @@ class Cohort:
         """Returns the redraw of the present version for a new viewer."""
         if self._redraw is None:
             viewer = self._mirror.join()
-            text, size = self._mirror.update_scrolling(viewer)
+            data, size = self._mirror.update_bytes(viewer, scroll=True)
             self._mirror.leave(viewer)
             assert size is not None  # a first update is a redraw
-            modes = self.screen.input_mode_formatted()
-            self._redraw = messages.redraw(size.rows, size.cols, (text + modes).encode())
+            modes = self.screen.input_mode_formatted_bytes()
+            self._redraw = messages.redraw(size.rows, size.cols, data + modes)
         return self._redraw

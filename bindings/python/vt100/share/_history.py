@@ -150,12 +150,12 @@ class History(Rows):
 def _read(parser: Parser, count: int) -> List[bytes]:
     """Returns the first displayed rows, each with what moves a terminal to the next row."""
     rows = []
-    for row, text in enumerate(parser.rows_formatted()[:count]):
-        if "\x1b" in text:
-            text += "\x1b[m"
+    for row, data in enumerate(parser.rows_formatted_bytes()[:count]):
+        if b"\x1b" in data:
+            data += b"\x1b[m"
         # The last column of a wrapped row is not blank, so a terminal wraps before the space.
-        rows.append(f"{text} \r\x1b[K" if parser.row_wrapped(row) else f"{text}\r\n")
-    return [row.encode() for row in rows]
+        rows.append(data + (b" \r\x1b[K" if parser.row_wrapped(row) else b"\r\n"))
+    return rows
 
 
 class HistorySender:

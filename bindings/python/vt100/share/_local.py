@@ -44,18 +44,18 @@ class LocalTerminal:
     def show(self) -> None:
         """Displays the present version, unless the terminal is still busy with an older one."""
         if not self._unsent and not self._is_gone:
-            self._unsent += self._update(self._cohort.screen).encode()
+            self._unsent += self._update(self._cohort.screen)
         self._write()
 
-    def _update(self, screen: Screen) -> str:
+    def _update(self, screen: Screen) -> bytes:
         shown, self._shown = self._shown, screen
         if shown is None:
-            return _ENTER + TERMINAL_SETUP + screen.state_formatted(portable=True)
+            return (_ENTER + TERMINAL_SETUP).encode() + screen.state_formatted_bytes(portable=True)
         if self._must_redraw or not shown.is_steady() or shown.size != screen.size:
             self._must_redraw = False
-            redraw = screen.contents_formatted(portable=True)
-            return TERMINAL_SETUP + redraw + screen.input_mode_diff(shown)
-        return screen.state_diff_with(shown, portable=True)
+            redraw = screen.contents_formatted_bytes(portable=True)
+            return TERMINAL_SETUP.encode() + redraw + screen.input_mode_diff_bytes(shown)
+        return screen.state_diff_bytes(shown, portable=True)
 
     def _write(self) -> None:
         try:
