@@ -2,8 +2,10 @@
 
 import asyncio
 import contextlib
+import socket
 import struct
 import subprocess
+import time
 import unittest
 import zlib
 from unittest import mock
@@ -258,6 +260,33 @@ class LeftOut(unittest.TestCase):
         self.assertTrue(viewer.has_room)
         viewer.is_drained = False
         self.assertFalse(viewer.has_room)
+
+
+@needs_websockets
+class SlowLoop(unittest.TestCase):
+    async def _ask(self):
+        """Sends a request while the event loop is busy, until the connection could seem silent.
+        Returns the beginning of the response."""
+        loop, sleep = asyncio.get_running_loop(), asyncio.sleep
+        async with Shared(ECHO) as shared:
+            with socket.create_connection(("127.0.0.1", shared.port)) as asking:
+                asking.setblocking(False)
+                request = b"GET / HTTP/1.1\r\nHost: 127.0.0.1:%d\r\n\r\n" % shared.port
+
+                async def slow(delay):
+                    await sleep(delay)
+                    if delay == 1:  # the connections are checked next
+                        asking.send(request)
+                        time.sleep(1.2)
+
+                with mock.patch.object(asyncio, "sleep", slow):
+                    return await asyncio.wait_for(loop.sock_recv(asking, 15), 10)
+
+    def test_what_has_arrived_is_read_before_a_connection_is_called_silent(self):
+        for without in ({}, {"uvloop": None}):
+            with mock.patch.dict("sys.modules", without):
+                with mock.patch.object(_server, "_PATIENCE", 1):
+                    self.assertEqual(_loop.run(self._ask()), b"HTTP/1.1 200 OK")
 
 
 class Limits(unittest.TestCase):

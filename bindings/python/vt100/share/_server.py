@@ -89,6 +89,9 @@ class Server:
         while True:
             await asyncio.sleep(1)
             now = time.monotonic()
+            # First reads what has arrived: if the event loop was slow, its viewers were not silent.
+            await asyncio.sleep(0)
+            await asyncio.sleep(0)
             for connection in list(self.connections):
                 connection.check_time(now)
 
