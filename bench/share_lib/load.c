@@ -4,12 +4,14 @@
  *
  * The last LATE viewers join when there is a file FOLDER/late; the SLOW ones before them read 2 KB/s. The first
  * RESTLESS ones leave, stall, join again and send malformed messages at random, until CALM seconds after the start.
- * Creates FOLDER/open when the others are connected. Ends after SECONDS, or when all have seen the end of the program.
+ * Creates FOLDER/open when the others are connected, and FOLDER/calm when all are connected and calm. Ends after
+ * SECONDS, or when all have seen the end of the program.
  *
  * Writes which message reached the socket of which viewer when, and when it was read, to FOLDER/arrivals (struct
  * arrival), what terminals have read to FOLDER/messages (number, length, message), and what each viewer has read to
- * FOLDER/viewers (struct figures, and the numbers of the messages). Prints counts, and its own processor time in
- * milliseconds, as JSON.
+ * FOLDER/viewers (struct figures, and the numbers of the messages). Prints as JSON: counts, the longest time that the
+ * server took to end the connection of a viewer that had sent a malformed message, and its own processor time, both in
+ * milliseconds. `spared` counts the connections that it never ended.
  */
 #define _GNU_SOURCE
 #include <arpa/inet.h>
@@ -33,19 +35,20 @@ struct slot { uint64_t key; uint32_t len, refs; uint8_t *data; };
 struct arrival { uint64_t key, arrived, read; uint32_t viewer, is_first; };
 struct figures { uint64_t bytes, updates; uint32_t has_end, seen_count; };
 struct viewer {
-    int fd, is_slow, is_restless, is_doomed, has_screen;
+    int fd, is_slow, is_restless, is_doomed, is_stalled, has_screen;
     enum state state;
     uint8_t *input;
     uint32_t *seen; /* the slots of the messages that its terminal has read */
     size_t len, room, budget, seen_room;
     uint32_t number, read, acknowledged;
-    uint64_t wakes;
+    uint64_t wakes, offended;
     struct figures figures;
 };
 
 static struct slot *slots;
+static uint32_t slot_count; /* of those in use */
 static FILE *arrivals;
-static uint64_t gone, refused, cut_off, spared, left, stalls;
+static uint64_t gone, refused, cut_off, slowest, spared, left, stalls;
 static uint64_t offset; /* of the clock of the system, by which packets are stamped, to that of now() */
 static int poll_fd, port, joining, packs;
 static const char *token;
@@ -70,8 +73,11 @@ static void compare_clocks(void) {
 static struct slot *slot_of(uint64_t key) {
     uint64_t at = key * 0x9e3779b97f4a7c15 >> 32;
     while (slots[at % SLOTS].key != 0 && slots[at % SLOTS].key != key) at++;
-    slots[at % SLOTS].key = key;
-    return &slots[at % SLOTS];
+    struct slot *slot = &slots[at % SLOTS];
+    slot_count += slot->key == 0;
+    slot->key = key;
+    if (slot_count > SLOTS / 4 * 3) fputs("load: too many messages\n", stderr), exit(1);
+    return slot;
 }
 
 /* Makes the terminal of a viewer new. */
@@ -103,17 +109,25 @@ static void take_screen(struct viewer *viewer, const uint8_t *message, size_t le
     figures->updates++;
 }
 
+/* Counts a viewer that has sent a malformed message, when its connection ends. */
+static void count_doomed(const struct viewer *viewer) {
+    uint64_t passed = now() - viewer->offended;
+    if (viewer->figures.has_end) { spared++; return; }
+    cut_off++;
+    if (passed > slowest) slowest = passed;
+}
+
 static void hang_up(struct viewer *viewer) {
     joining -= !viewer->has_screen;
     if (viewer->fd >= 0) close(viewer->fd);
-    cut_off += (uint64_t)viewer->is_doomed;
+    if (viewer->is_doomed) count_doomed(viewer);
     viewer->state = viewer->figures.has_end || !viewer->is_restless ? GONE : AWAY;
     gone += viewer->state == GONE;
     if (viewer->state == AWAY) forget(viewer);
     if (viewer->is_doomed) viewer->wakes = 0; /* it joins again */
     viewer->fd = -1;
     viewer->len = 0;
-    viewer->is_doomed = 0;
+    viewer->is_doomed = viewer->is_stalled = 0;
 }
 
 static void watch(struct viewer *viewer, int how, uint32_t events) {
@@ -254,7 +268,7 @@ static void serve_slow(struct viewer *viewer, size_t more) {
     if (viewer->budget > 0) viewer->budget -= receive(viewer, viewer->budget);
 }
 
-/* Sends what no page sends. The server has 20 seconds to end the connection. */
+/* Sends what no page sends. The server must end the connection: the viewer does nothing more. */
 static void offend(struct viewer *viewer, uint64_t time) {
     static const struct { size_t len; const char *bytes; } frames[] = {
         {7, "\x82\x81\0\0\0\0q"}, {11, "\x82\x85\0\0\0\0a\x7f\xff\xff\xff"}, {3, "\x82\x01q"}, {7, "\x81\x81\0\0\0\0x"},
@@ -263,7 +277,7 @@ static void offend(struct viewer *viewer, uint64_t time) {
         {14, "\x82\xff\0\0\0\1\0\0\0\0\0\0\0\0"}, {6, "\x88\x80\0\0\0\0"} };
     size_t which = (size_t)rand() % (sizeof frames / sizeof *frames + 1);
     viewer->is_doomed = 1;
-    viewer->wakes = time + 20000000000;
+    viewer->offended = time;
     if (which < sizeof frames / sizeof *frames) transmit(viewer, frames[which].bytes, frames[which].len);
     else for (int k = 0; k < 3000 && viewer->fd >= 0; k++) acknowledge(viewer);
 }
@@ -273,15 +287,22 @@ static void act(struct viewer *viewer, uint64_t time, int is_calm) {
     if (time < viewer->wakes) return;
     viewer->wakes = time + 1000000 * (uint64_t)(1000 + rand() % 8000);
     if (viewer->state == AWAY && joining < MOST_JOINING) join(viewer);
-    if (viewer->state != OPEN) return;
-    int deed = is_calm ? 0 : rand() % 12, is_stalled = deed == 4 || deed == 5;
-    spared += (uint64_t)viewer->is_doomed;
-    stalls += (uint64_t)is_stalled;
-    viewer->is_doomed = 0;
-    watch(viewer, EPOLL_CTL_MOD, is_stalled ? 0 : EPOLLIN);
+    if (viewer->state != OPEN || viewer->is_doomed) return;
+    int deed = is_calm ? 0 : rand() % 12;
+    viewer->is_stalled = deed == 4 || deed == 5;
+    stalls += (uint64_t)viewer->is_stalled;
+    watch(viewer, EPOLL_CTL_MOD, viewer->is_stalled ? 0 : EPOLLIN);
     if (deed == 1) left++, hang_up(viewer);
     if (deed == 2) acknowledge(viewer);
     if (deed == 3) offend(viewer, time);
+}
+
+/* Returns whether all viewers are connected, read what they get, and have broken no rule. */
+static int is_settled(const struct viewer *viewers, int count) {
+    for (int k = 0; k < count; k++)
+        if (viewers[k].state != OPEN || !viewers[k].has_screen || viewers[k].is_doomed || viewers[k].is_stalled)
+            return 0;
+    return 1;
 }
 
 static void write_seen(const struct viewer *viewers, int count) {
@@ -302,7 +323,7 @@ int main(int argc, char **argv) {
     if (argc != 11 || chdir(argv[3]) != 0) return 2;
     port = atoi(argv[1]), token = argv[2];
     int count = atoi(argv[4]), slow = atoi(argv[5]), late = atoi(argv[6]), restless = atoi(argv[7]);
-    int next = 0, is_open = 0;
+    int next = 0, is_open = 0, is_calm = 0;
     uint64_t begin = now(), last = begin, stop = begin + 1000000000 * (uint64_t)atoi(argv[8]);
     uint64_t calm = begin + 1000000000 * (uint64_t)atoi(argv[9]);
     packs = atoi(argv[10]);
@@ -326,6 +347,7 @@ int main(int argc, char **argv) {
             else if (viewer->fd >= 0 && !viewer->is_slow) receive(viewer, ROOM);
         }
         for (int k = 0; k < restless && is_open; k++) act(&viewers[k], time, time > calm);
+        if (!is_calm && time > calm && is_settled(viewers, count)) is_calm = 1, close(open("calm", O_CREAT, 0644));
         if (time - last >= 50000000) {
             compare_clocks();
             for (int k = count - late - slow; k < count - late; k++)
@@ -334,8 +356,10 @@ int main(int argc, char **argv) {
         }
         if (!is_open && next >= count - late && joining == 0) is_open = 1, close(open("open", O_CREAT, 0644));
     }
+    for (int k = 0; k < count; k++) spared += (uint64_t)viewers[k].is_doomed;
     write_seen(viewers, count);
-    printf("{\"refused\": %lu, \"left\": %lu, \"stalls\": %lu, \"cut_off\": %lu, \"spared\": %lu, \"load_ms\": %lu}\n",
-        refused, left, stalls, cut_off, spared, (unsigned long)(clock() / (CLOCKS_PER_SEC / 1000)));
+    printf("{\"refused\": %lu, \"left\": %lu, \"stalls\": %lu, \"cut_off\": %lu, \"slowest_ms\": %lu, \"spared\": %lu, "
+        "\"messages\": %u, \"load_ms\": %lu}\n", refused, left, stalls, cut_off, slowest / 1000000, spared, slot_count,
+        (unsigned long)(clock() / (CLOCKS_PER_SEC / 1000)));
     return 0;
 }

@@ -1,7 +1,8 @@
-"""play.py SECONDS RATE STREAM..: the program of serve.py, which writes recorded streams at RATE bytes per second.
+"""play.py SECONDS PATIENCE RATE STREAM..: the program of serve.py. It writes recorded streams at RATE bytes per second.
 
-Begins when there is a file "open", and creates "started", and "late" after half of the time. Adds the number of bytes
-and the time to the file "stamps" before each write.
+Begins when there is a file "open", and creates "started", and "late" after half of the time. After SECONDS, goes on
+until there is a file "calm", but for at most PATIENCE more seconds. Adds the number of bytes and the time to the file
+"stamps" before each write.
 """
 import os
 import struct
@@ -10,7 +11,7 @@ import time
 import tty
 
 
-def play(seconds, rate, paths):
+def play(seconds, patience, rate, paths):
     streams = [open(path, "rb").read() for path in paths]
     pieces = [data[at : at + 256] for data in streams for at in range(0, len(data), 256)]
     stamps = open("stamps", "ab", buffering=0)
@@ -18,7 +19,9 @@ def play(seconds, rate, paths):
         time.sleep(0.02)
     open("started", "w").close()
     start, sent, turn = time.monotonic(), 0, 0
-    while (now := time.monotonic() - start) < seconds:
+    while (now := time.monotonic() - start) < seconds + patience:
+        if now >= seconds and os.path.exists("calm"):
+            break
         if now > seconds / 2:
             os.close(os.open("late", os.O_CREAT))
         if sent > now * rate:
@@ -32,4 +35,4 @@ def play(seconds, rate, paths):
 
 
 tty.setraw(1)
-play(float(sys.argv[1]), float(sys.argv[2]), sys.argv[3:])
+play(*map(float, sys.argv[1:4]), sys.argv[4:])

@@ -1,8 +1,8 @@
-"""serve.py FOLDER KIND VIEWERS SECONDS RATE STREAM..: a server of vt100-share with the program play.py.
+"""serve.py FOLDER KIND VIEWERS SECONDS PATIENCE RATE STREAM..: a server of vt100-share with the program play.py.
 
 KIND is `rounds`, or `broadcast` for a server that sends each viewer all output at once. Writes its address and token to
-FOLDER/address, the time of each message to FOLDER/log, and the last screen and the numbers of open files before and
-after to FOLDER/final.
+FOLDER/address, the time of each message to FOLDER/log, and the last screen, the numbers of open files before and after,
+and the longest delay of the event loop in seconds to FOLDER/final.
 """
 import asyncio
 import json
@@ -88,6 +88,20 @@ async def connect_once(server, port):
         await asyncio.sleep(0.01)
 
 
+class Pulse:
+    """Measures for how long the event loop does not come to a timer."""
+
+    def __init__(self):
+        self.longest = 0.0
+        self._loop = asyncio.get_running_loop()
+        self._beat(self._loop.time())
+
+    def _beat(self, due):
+        self.longest = max(self.longest, self._loop.time() - due)
+        due = self._loop.time() + 0.05
+        self._loop.call_at(due, self._beat, due)
+
+
 def open_files():
     return len(os.listdir("/proc/self/fd"))
 
@@ -99,14 +113,14 @@ async def serve(kind, viewers, arguments):
     await connect_once(server, port)
     program = Program([sys.executable, os.path.join(HERE, "play.py"), *arguments], 24, 80)
     share = server.share = (Broadcast if kind == "broadcast" else _share.Share)(program, 24, 80)
-    before = open_files() - 2  # without the terminal and the socket that listens
+    pulse, before = Pulse(), open_files() - 2  # without the terminal and the socket that listens
     with open("address.new", "w", encoding="utf-8") as file:
         file.write(f"{port} t{tokens.read}")
     os.rename("address.new", "address")
     await share.ended.wait()
     await server.close()
     program.close()
-    final = [share.cohort.parser.state_formatted(), before, open_files()]
+    final = [share.cohort.parser.state_formatted(), before, open_files(), pulse.longest]
     with open("final", "w", encoding="utf-8") as file:
         json.dump(final, file)
 
