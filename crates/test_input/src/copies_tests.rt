@@ -119,6 +119,45 @@ fn a_copy_is_alike_and_goes_its_own_way(rt: HostRuntime) -> Result<(), Fail> {
     Ok(())
 }
 
+/// Consecutive inputs of a parser with nine rows of two columns, each with the display that is
+/// expected after it. Most of them scroll all rows, up or down and by different numbers of rows.
+#[rattlefmt::skip]
+const SCROLLED: [(&str, &str); 11] = [
+    ("a\r\nb\r\nc\r\nd\r\ne\r\nf\r\ng\r\nh\r\ni", "0:a 1:b 2:c 3:d 4:e 5:f 6:g 7:h 8:i @8,1\n"),
+    ("\x1b[2T", "2:a 3:b 4:c 5:d 6:e 7:f 8:g @8,1\n"),
+    ("\x1b[Hx\r\ny", "0:x 1:y 2:a 3:b 4:c 5:d 6:e 7:f 8:g @1,1\n"),
+    ("\x1b[3T", "3:x 4:y 5:a 6:b 7:c 8:d @1,1\n"),
+    ("\x1b[S", "2:x 3:y 4:a 5:b 6:c 7:d @1,1\n"),
+    ("\x1b[4S", "0:a 1:b 2:c 3:d @1,1\n"),
+    ("\x1b[9;1Hz\n", "0:b 1:c 2:d 7:z @8,1\n"),
+    ("\x1b[H\x1bM\x1bM\x1bM", "3:b 4:c 5:d @0,0\n"),
+    ("\x1b[5S", "0:d @0,0\n"),
+    ("\x1b[8T", "8:d @0,0\n"),
+    ("\x1b[9S", "@0,0\n"),
+];
+
+/// Fails if the display of a screen that has just parsed `input` is not `wanted`.
+fn expect_shown(alloc: Global, screen: &Screen, input: &str, wanted: &str) -> Result<(), Fail> {
+    let display = shown(alloc, screen)?;
+    if display.as_str() == wanted {
+        return Ok(());
+    }
+    Err(Fail::new(format_args!("{input:?} displays {display}")))
+}
+
+#[test]
+fn a_page_and_its_copy_scroll_all_rows(rt: HostRuntime) -> Result<(), Fail> {
+    let mut parser = read_keeping(rt.alloc(), (9, 2), 0, &[])?;
+    for (input, wanted) in &SCROLLED {
+        let mut other = with_copy(rt.alloc(), parser.screen())?;
+        parser.process(input.as_bytes())?;
+        other.process(input.as_bytes())?;
+        expect_shown(rt.alloc(), parser.screen(), input, wanted)?;
+        expect_shown(rt.alloc(), other.screen(), input, wanted)?;
+    }
+    Ok(())
+}
+
 /// Fails if a copy made by `shown_copy` has a different display or size than the screen `one`, or
 /// has scrollback although `one` displays none.
 fn expect_displayed(one: &Screen, copy: &Screen) -> Result<(), Fail> {

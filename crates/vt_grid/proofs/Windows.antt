@@ -1,6 +1,6 @@
 -- The entries of a table, which are the last ones of a list: the effect of replacing an entry, and rotations.
 use Rattle.std.proofs.Common.{◌≡◌, ◌≢◌, ℕ, ◌+◌, ◌-◌, ◌<◌, ◌≤◌, List, [], ◌∷◌, ◌++◌, length, take, drop}
-use Rattle.std.specs.List.{CopiedTo}
+use Rattle.std.specs.List.{CopiedTo, SameFrom}
 use Rattle.std.proofs.Common.{set, inl, inr, sym, ap, ◌∙◌, arith}
 use Rattle.std.proofs.lemmas.Bool.{cases_eq, cases_lt}
 use Rattle.std.proofs.lemmas.Bool.Decides.{nat_tests}
@@ -76,15 +76,84 @@ window-moved s entries first h e k =
       ]
     ]
 
--- The entries of the table, copied to the beginning of the list.
-pub window-front : (s : ℕ) (entries now : List Line) → s ≤ length entries → length now ≡ length entries →
-    CopiedTo entries now s 0 (length entries - s) → take (length entries - s) now ≡ drop s entries
-window-front s entries now h e f =
-    let n = length entries - s in
+-- The entries of the table, copied to index t of the list, after which the list ends.
+pub window-forward : (s t : ℕ) (entries now : List Line) → t ≤ s → s ≤ length entries → length now ≡ length entries →
+    CopiedTo entries now s t (length entries - s) → drop t (take (length entries - (s - t)) now) ≡ drop s entries
+window-forward s t entries now b h e f =
+    let n = length entries - (s - t) in
+    let kept = take n now in
     let old = length-drop s entries in
-    ext_get_or no_line (take n now) (drop s entries) (omega (arith, length-take n now, e, old)) (λ k i.
-    let inside : k < n = omega (arith, i, length-take n now) in
-    let at : s + (k - 0) ≡ s + k = omega arith in
-    get_or-take n now k no_line inside
-    ∙ (f k no_line (omega arith) (omega (arith, inside))
-    ∙ (ap (line_at entries) at ∙ sym (get_or-drop s entries k no_line))))
+    let new = length-drop t kept in
+    ext_get_or no_line (drop t kept) (drop s entries) (omega (arith, new, length-take n now, e, old, b, h)) (λ k i.
+    let inside : t + k < n = omega (arith, i, new, length-take n now, e, b, h) in
+    let at : s + (t + k - t) ≡ s + k = omega arith in
+    get_or-drop t kept k no_line
+    ∙ (get_or-take n now (t + k) no_line inside
+    ∙ (f (t + k) no_line (omega arith) (omega (arith, inside, b, h))
+    ∙ (ap (line_at entries) at ∙ sym (get_or-drop s entries k no_line)))))
+
+-- Moving the last n entries before the others, beginning the table n entries earlier, and removing what is after it,
+-- rotates the table down by n.
+pub window-before : (s n : ℕ) (entries now : List Line) → n ≤ s → s + n ≤ length entries → length now ≡ length entries →
+    CopiedTo entries now (length entries - n) (s - n) n → SameFrom entries now s → (k : ℕ) →
+    line_at (drop (s - n) (take (length entries - n) now)) k
+    ≡ line_at (drop s entries) (rotation_source 0 (length entries - s) (length entries - s - n) k)
+window-before s n entries now b h e f g k =
+    let len = length entries in
+    let m = len - n in
+    let kept = take m now in
+    let source = rotation_source 0 (len - s) (len - s - n) k in
+    let new = get_or-drop (s - n) kept k no_line in
+    let old = get_or-drop s entries source no_line in
+    let size : length kept ≡ m = omega (arith, length-take m now, e, h) in
+    elim (cases_lt (s - n + k) m) [
+      | inl inside ↦
+          let taken = new ∙ get_or-take m now (s - n + k) no_line inside in
+          elim (cases_lt k n) [
+            | inl few ↦
+                let at : m + (s - n + k - (s - n)) ≡ s + source = grind (arith, nat_tests, few, b, h, inside) in
+                taken
+                ∙ (f (s - n + k) no_line (omega arith) (omega (arith, few))
+                ∙ (ap (line_at entries) at ∙ sym old))
+            | inr many ↦
+                let at : s - n + k ≡ s + source = grind (arith, nat_tests, many, b, h, inside) in
+                taken
+                ∙ (g (s - n + k) no_line (omega (arith, many, b))
+                ∙ (ap (line_at entries) at ∙ sym old))
+          ]
+      | inr past ↦
+          let at : len ≤ s + source = grind (arith, nat_tests, past, b, h) in
+          new
+          ∙ (get_or_past kept (s - n + k) no_line (omega (arith, size, past))
+          ∙ sym (old ∙ get_or_past entries (s + source) no_line at))
+    ]
+
+-- Rotating by one after rotating by i.
+source-again : (i n k : ℕ) → i < n →
+    rotation_source 0 n i (rotation_source 0 n 1 k) ≡ rotation_source 0 n (i + 1) k
+source-again i n k h = elim (cases_lt k n) [
+  | inl inside ↦ elim (cases_lt (k + 1) n) [
+    | inl before ↦
+        let one : rotation_source 0 n 1 k ≡ k + 1 = grind (arith, nat_tests, before) in
+        let rest : rotation_source 0 n i (k + 1) ≡ rotation_source 0 n (i + 1) k = grind (arith, nat_tests, before) in
+        ap (rotation_source 0 n i) one ∙ rest
+    | inr last ↦
+        let one : rotation_source 0 n 1 k ≡ 0 = grind (arith, nat_tests, inside, last) in
+        let first : rotation_source 0 n i 0 ≡ i = grind (arith, nat_tests, h) in
+        let rest : i ≡ rotation_source 0 n (i + 1) k = grind (arith, nat_tests, inside, last, h) in
+        ap (rotation_source 0 n i) one ∙ (first ∙ rest)
+  ]
+  | inr past ↦
+      let one : rotation_source 0 n 1 k ≡ k = grind (arith, nat_tests, past) in
+      let rest : rotation_source 0 n i k ≡ rotation_source 0 n (i + 1) k = grind (arith, nat_tests, past) in
+      ap (rotation_source 0 n i) one ∙ rest
+]
+
+pub window-again : (i : ℕ) (old now next : List Line) → i < length old → length now ≡ length old →
+    ((k : ℕ) → line_at now k ≡ line_at old (rotation_source 0 (length old) i k)) →
+    ((k : ℕ) → line_at next k ≡ line_at now (rotation_source 0 (length now) 1 k)) → (k : ℕ) →
+    line_at next k ≡ line_at old (rotation_source 0 (length old) (i + 1) k)
+window-again i old now next h e f g k =
+    g k
+    ∙ (ap (λ (m : ℕ). line_at now (rotation_source 0 m 1 k)) e
+    ∙ (f (rotation_source 0 (length old) 1 k) ∙ ap (line_at old) (source-again i (length old) k h)))

@@ -13,9 +13,10 @@ use vt_rows::shifts::turn;
 
 /// The row table of a page: one entry for each row, from top to bottom.
 ///
-/// The entries are the last ones of a vector that has memory for more of them. When all rows move
-/// up by one, the first entry is therefore appended, and the table begins one entry later; the
-/// other entries stay where they are.
+/// The entries are the last ones of a vector that has memory for twice as many. When all rows move
+/// up by one, the first entry is therefore appended, and the table begins one entry later. When all
+/// rows move down, the last entries are moved before the first one, if there is room, and the table
+/// begins earlier. In both cases, the other entries stay where they are.
 #[derive(Debug, Drop)]
 pub struct Lines {
     entries: Vec<Line>,
@@ -51,11 +52,9 @@ impl Lines {
         ensures ok { IfOk result (λ lines. lines.items ≡ self.now.items) }
         ensures memory { OnlyOutOfMemory result }
     {
-        let entries = self.entries.to_vec(alloc)?;
-        Ok(Lines {
-            entries,
-            start: self.start,
-        })
+        let mut entries = Vec::with_capacity(alloc, self.len().saturating_mul(2))?;
+        entries.extend_from_slice(self.as_slice())?;
+        Ok(Lines { entries, start: 0 })
     }
 
     /// Returns the number of rows.
@@ -91,9 +90,9 @@ impl Lines {
         self.entries[self.start + row] = line;
     }
 
-    /// Rotates the entries of rows `from..to` upward by `count`. If all rows are rotated by one,
-    /// the time does not depend on their number, except when there is no memory left after the
-    /// entries, which are then moved to the beginning of the vector.
+    /// Rotates the entries of rows `from..to` upward by `count`. If all rows are rotated, upward by
+    /// `count` or downward by the number of the remaining rows, the average time per row does not
+    /// depend on the number of rows.
     pub fn rotate(&mut self, from: usize, to: usize, count: usize)
         requires in_order { from + count ≤ to }
         requires inside { to ≤ length self.old.items }
@@ -102,15 +101,74 @@ impl Lines {
             line_at self.new.items k ≡ line_at self.old.items (rotation_source from to count k) }
     {
         if count == 1 && to - from == self.len() {
-            self.make_room();
-            self.rotate_all();
+            self.rotate_by_one();
         } else {
+            self.rotate_many(from, to, count);
+        }
+    }
+
+    /// Rotates the entries of rows `from..to` upward by `count`, as [`Lines::rotate`] does.
+    #[inline(never)]
+    fn rotate_many(&mut self, from: usize, to: usize, count: usize)
+        requires in_order { from + count ≤ to }
+        requires inside { to ≤ length self.old.items }
+        ensures len { length self.new.items ≡ length self.old.items }
+        ensures lines { (k : ℕ) →
+            line_at self.new.items k ≡ line_at self.old.items (rotation_source from to count k) }
+    {
+        if to - from < self.len() {
             turn(&mut self.entries, self.start + from, self.start + to, count);
+        } else {
+            self.rotate_all(count);
+        }
+    }
+
+    /// Rotates all entries upward by `count`. A downward rotation by few entries moves only these,
+    /// if there is room for them before the first entry. Otherwise it is an upward rotation by the
+    /// remaining entries, after which there is room for many downward rotations.
+    fn rotate_all(&mut self, count: usize)
+        requires { count ≤ length self.old.items }
+        ensures len { length self.new.items ≡ length self.old.items }
+        ensures lines { (k : ℕ) →
+            line_at self.new.items k ≡ line_at self.old.items (rotation_source 0 (length self.old.items) count k) }
+    {
+        let down = self.len() - count;
+        if down < count && down <= self.start {
+            move_before(&mut self.entries, self.start, down);
+            self.start -= down;
+        } else {
+            self.rotate_up(count);
+        }
+    }
+
+    /// Rotates all entries upward by `count`, one by one.
+    fn rotate_up(&mut self, count: usize)
+        requires { count ≤ length self.old.items }
+        ensures len { length self.new.items ≡ length self.old.items }
+        ensures lines { (k : ℕ) →
+            line_at self.new.items k ≡ line_at self.old.items (rotation_source 0 (length self.old.items) count k) }
+    {
+        for step in 0..count {
+            self.rotate_by_one();
         }
     }
 
     /// Rotates all entries upward by one.
-    fn rotate_all(&mut self)
+    #[inline(always)]
+    fn rotate_by_one(&mut self)
+        requires { 0 < length self.old.items }
+        ensures len { length self.new.items ≡ length self.old.items }
+        ensures lines { (k : ℕ) →
+            line_at self.new.items k ≡ line_at self.old.items (rotation_source 0 (length self.old.items) 1 k) }
+    {
+        self.make_room();
+        self.append_first();
+    }
+
+    /// Appends the first entry, and begins the table one entry later. If there is no memory left
+    /// after the entries, they are rotated in place.
+    #[inline(always)]
+    fn append_first(&mut self)
         requires { 0 < length self.old.items }
         ensures len { length self.new.items ≡ length self.old.items }
         ensures lines { (k : ℕ) →
@@ -126,13 +184,18 @@ impl Lines {
         }
     }
 
-    /// Moves the entries to the beginning of the vector if there is no memory left after them.
+    /// Moves the entries toward the beginning of the vector if there is no memory left after them.
+    ///
+    /// Some of the room before them remains. Otherwise, rotations by one that alternate between
+    /// upward and downward could each move all entries.
+    #[inline(always)]
     fn make_room(&mut self)
         ensures { self.new ≡ self.old }
     {
         if self.entries.len() == self.entries.capacity() {
-            to_front(&mut self.entries, self.start);
-            self.start = 0;
+            let start = self.start / 16;
+            move_forward(&mut self.entries, self.start, start);
+            self.start = start;
         }
     }
 
@@ -161,7 +224,7 @@ impl Lines {
         ensures { self.new.items
             ≡ self.old.items ++ lines_from (length self.old.items) (rows - length self.old.items) }
     {
-        to_front(&mut self.entries, self.start);
+        move_forward(&mut self.entries, self.start, 0);
         self.start = 0;
         push_lines(&mut self.entries, rows);
     }
@@ -170,21 +233,39 @@ impl Lines {
     pub fn truncate(&mut self, rows: usize)
         ensures { self.new.items ≡ take rows self.old.items }
     {
-        to_front(&mut self.entries, self.start);
+        move_forward(&mut self.entries, self.start, 0);
         self.start = 0;
         self.entries.truncate(rows);
     }
 }
 
-/// Removes the first `start` entries.
-fn to_front(entries: &mut Vec<Line>, start: usize)
-    requires { start ≤ length entries.old.items }
-    ensures items { entries.new.items ≡ drop start entries.old.items }
+/// Moves the entries from index `from` on to index `to`, and removes what is after them.
+#[inline(never)]
+fn move_forward(entries: &mut Vec<Line>, from: usize, to: usize)
+    requires forward { to ≤ from }
+    requires inside { from ≤ length entries.old.items }
+    ensures inside { to ≤ length entries.new.items }
+    ensures items { drop to entries.new.items ≡ drop from entries.old.items }
     ensures capacity { vec_capacity entries.new ≡ vec_capacity entries.old }
 {
     let len = entries.len();
-    entries.copy_within(start..len, 0);
-    entries.truncate(len - start);
+    entries.copy_within(from..len, to);
+    entries.truncate(len - (from - to));
+}
+
+/// Moves the last `count` entries before index `start`, overwriting what is there.
+fn move_before(entries: &mut Vec<Line>, start: usize, count: usize)
+    requires room { count ≤ start }
+    requires inside { start + count ≤ length entries.old.items }
+    ensures len { length entries.new.items ≡ length entries.old.items - count }
+    ensures lines { (k : ℕ) →
+        line_at (drop (start - count) entries.new.items) k
+        ≡ line_at (drop start entries.old.items) (rotation_source 0 (length entries.old.items - start)
+        (length entries.old.items - start - count) k) }
+{
+    let len = entries.len();
+    entries.copy_within(len - count..len, start - count);
+    entries.truncate(len - count);
 }
 
 /// Appends entries to a table until it has `rows` entries. The slot of each new row is its own

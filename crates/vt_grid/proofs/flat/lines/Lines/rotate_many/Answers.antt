@@ -4,17 +4,17 @@ use Rattle.vt_rows.specs.Internals.{rotation_source}
 use Rattle.vt_grid.specs.Flat.{line_at, no_line}
 use Rattle.vt_grid.specs.Lines.{LinesValue}
 use Rattle.vt_grid.proofs.Windows.{window-turned}
-use Rattle.vt_grid.proofs.flat.lines.Lines.rotate.Goals as goal
+use Rattle.vt_grid.proofs.flat.lines.Lines.rotate_many.Goals as goal
 
-pub returns-else-count-eq1-clause-lines : goal.returns-else-count-eq1-clause-lines
-returns-else-count-eq1-clause-lines c =
-    let s = c.self-2.inside in
+pub returns-then-to-from-clause-lines : goal.returns-then-to-from-clause-lines
+returns-then-to-from-clause-lines c =
+    let s = c.self.inside in
     let entries = s.entries in
     let now = c.turn.new.items in
     let from = c.args.from in
     let to = c.args.to in
     let count = c.args.count in
-    let view : drop s.start entries.items ≡ c.args.self.now.items = ap (λ (v : LinesValue). v.items) c.self-2.view_is in
+    let view : drop s.start entries.items ≡ c.args.self.now.items = ap (λ (v : LinesValue). v.items) c.self.view_is in
     let size : length now ≡ length entries.items = c.turn.ensures.len ∙ ap length c.deref_mut.ensures.value in
     let whole = with_items_is entries now (omega (arith, size, entries.ok.0)) in
     λ k.
