@@ -60,3 +60,4 @@ pub mod PortableLinks
 pub mod PortableRows
 pub mod PortableCursor
 pub mod PortableScript
+pub mod Certainty

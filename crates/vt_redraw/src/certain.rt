@@ -1,6 +1,6 @@
 //! Characters on whose width terminals agree.
 
-ghost use Rattle.std.specs.Prelude.{◌≡◌};
+ghost use Rattle.std.specs.Prelude.{◌≡◌, ◌<◌, ◌≤◌, [], ◌∷◌, chars};
 ghost use Rattle.vt_redraw.specs.Certain.{is_between, is_certain, is_certain_letter, is_certain_narrow};
 ghost use Rattle.vt_redraw.specs.Certain.{is_certain_symbol, is_certain_text, is_certain_wide};
 
@@ -8,112 +8,211 @@ ghost use Rattle.vt_redraw.specs.Certain.{is_certain_symbol, is_certain_text, is
 pub fn is_certain(c: char) -> bool
     ensures { result ≡ is_certain c }
 {
-    // There are fewer wide ranges, so they are tried first.
-    is_certain_wide(c) || is_certain_narrow(c)
+    is_certain_code(c as u32)
 }
 
-/// Returns whether `c` is in the inclusive range from `low` to `high`.
+/// Returns whether terminals agree on the width of the character with the given code. Tries the most
+/// common characters first.
+#[inline]
+#[tactic(auto, using(crate::proofs::Certainty::beyond))]
+fn is_certain_code(code: u32) -> bool
+    ensures { result ≡ is_certain code }
+{
+    if code < 0x2000 {
+        return is_certain_below_symbols(code);
+    }
+    if code < 0x3000 {
+        return is_certain_among_symbols(code);
+    }
+    if code > 0xffff {
+        return false;
+    }
+    is_certain_after_symbols(code)
+}
+
+/// Returns whether terminals agree on the width of the character with the given code, which must be
+/// less than U+2000. There are neither symbols nor wide characters among these, and Latin, Greek and
+/// Cyrillic letters are the most common.
 #[inline(always)]
-fn is_between(low: char, high: char, c: char) -> bool
-    ensures { result ≡ is_between low high c }
+#[tactic(auto, using(crate::proofs::Certainty::below_symbols))]
+fn is_certain_below_symbols(code: u32) -> bool
+    ensures { code < 0x2000 → result ≡ is_certain code }
 {
-    low <= c && c <= high
+    is_between(0x20, 0x7e, code)
+        || is_between(0xae, 0x2ff, code)
+        || is_between(0x3a3, 0x482, code)
+        || is_certain_letter(code)
 }
 
-/// Returns whether `c` is a letter, a digit or punctuation of a script, other than those in ASCII,
-/// and terminals agree that it takes one column.
+/// Returns whether terminals agree on the width of the character with the given code, which must be
+/// from U+2000 to U+2FFF. There are only symbols among these, and box drawing is the most common.
+#[inline(always)]
+#[tactic(auto, using(crate::proofs::Certainty::among_symbols))]
+fn is_certain_among_symbols(code: u32) -> bool
+    ensures { 0x2000 ≤ code → code < 0x3000 → result ≡ is_certain code }
+{
+    is_between(0x2500, 0x25a9, code) || is_certain_symbol(code)
+}
+
+/// Returns whether terminals agree on the width of the character with the given code, which must be
+/// at least U+3000. The most common of these are ideographs. Narrow characters begin at U+E000.
+#[inline(always)]
+#[tactic(auto, using(crate::proofs::Certainty::after_symbols))]
+fn is_certain_after_symbols(code: u32) -> bool
+    ensures { 0x3000 ≤ code → result ≡ is_certain code }
+{
+    is_between(0x4e00, 0x9fd5, code)
+        || is_certain_wide(code)
+        || (0xe000 <= code && is_certain_narrow(code))
+}
+
+/// Returns whether `code` is in the inclusive range from `low` to `high`.
+#[inline(always)]
+fn is_between(low: u32, high: u32, code: u32) -> bool
+    ensures { result ≡ is_between low high code }
+{
+    low <= code && code <= high
+}
+
+/// Returns whether the character with the given code is a letter, a digit or punctuation of a
+/// script, other than those in ASCII, and terminals agree that it takes one column.
+#[inline(never)]
 #[tactic(auto, unfolding(crate::specs::Certain::is_certain_letter))]
-fn is_certain_letter(c: char) -> bool
-    ensures { result ≡ is_certain_letter c }
+fn is_certain_letter(code: u32) -> bool
+    ensures { result ≡ is_certain_letter code }
 {
-    is_between('\u{a1}', '\u{ac}', c)
-        || is_between('\u{ae}', '\u{2ff}', c)
-        || is_between('\u{370}', '\u{377}', c)
-        || is_between('\u{37a}', '\u{37f}', c)
-        || is_between('\u{384}', '\u{38a}', c)
-        || is_between('\u{38c}', '\u{38c}', c)
-        || is_between('\u{38e}', '\u{3a1}', c)
-        || is_between('\u{3a3}', '\u{482}', c)
-        || is_between('\u{48a}', '\u{52f}', c)
-        || is_between('\u{531}', '\u{556}', c)
-        || is_between('\u{561}', '\u{587}', c)
-        || is_between('\u{5d0}', '\u{5ea}', c)
-        || is_between('\u{620}', '\u{64a}', c)
-        || is_between('\u{660}', '\u{66f}', c)
-        || is_between('\u{671}', '\u{6d5}', c)
-        || is_between('\u{904}', '\u{939}', c)
-        || is_between('\u{958}', '\u{961}', c)
-        || is_between('\u{964}', '\u{970}', c)
-        || is_between('\u{e01}', '\u{e30}', c)
-        || is_between('\u{e32}', '\u{e33}', c)
-        || is_between('\u{e3f}', '\u{e46}', c)
-        || is_between('\u{e4f}', '\u{e5b}', c)
-        || is_between('\u{10d0}', '\u{10fc}', c)
-        || is_between('\u{1e00}', '\u{1eff}', c)
-        || is_between('\u{fb50}', '\u{fbb1}', c)
-        || is_between('\u{fe70}', '\u{fe74}', c)
-        || is_between('\u{fe76}', '\u{fefc}', c)
-        || is_between('\u{ff61}', '\u{ff9d}', c)
+    is_between(0xa1, 0xac, code)
+        || is_between(0xae, 0x2ff, code)
+        || is_between(0x370, 0x377, code)
+        || is_between(0x37a, 0x37f, code)
+        || is_between(0x384, 0x38a, code)
+        || is_between(0x38c, 0x38c, code)
+        || is_between(0x38e, 0x3a1, code)
+        || is_between(0x3a3, 0x482, code)
+        || is_between(0x48a, 0x52f, code)
+        || is_between(0x531, 0x556, code)
+        || is_between(0x561, 0x587, code)
+        || is_between(0x5d0, 0x5ea, code)
+        || is_between(0x620, 0x64a, code)
+        || is_between(0x660, 0x66f, code)
+        || is_between(0x671, 0x6d5, code)
+        || is_between(0x904, 0x939, code)
+        || is_between(0x958, 0x961, code)
+        || is_between(0x964, 0x970, code)
+        || is_between(0xe01, 0xe30, code)
+        || is_between(0xe32, 0xe33, code)
+        || is_between(0xe3f, 0xe46, code)
+        || is_between(0xe4f, 0xe5b, code)
+        || is_between(0x10d0, 0x10fc, code)
+        || is_between(0x1e00, 0x1eff, code)
+        || is_between(0xfb50, 0xfbb1, code)
+        || is_between(0xfe70, 0xfe74, code)
+        || is_between(0xfe76, 0xfefc, code)
+        || is_between(0xff61, 0xff9d, code)
 }
 
-/// Returns whether `c` is a symbol or punctuation that belongs to no script, and terminals agree
-/// that it takes one column.
+/// Returns whether the character with the given code is a symbol or punctuation that belongs to no
+/// script, and terminals agree that it takes one column.
+#[inline(never)]
 #[tactic(auto, unfolding(crate::specs::Certain::is_certain_symbol))]
-fn is_certain_symbol(c: char) -> bool
-    ensures { result ≡ is_certain_symbol c }
+fn is_certain_symbol(code: u32) -> bool
+    ensures { result ≡ is_certain_symbol code }
 {
-    is_between('\u{2500}', '\u{25a9}', c)
-        || is_between('\u{2010}', '\u{2027}', c)
-        || is_between('\u{2030}', '\u{203b}', c)
-        || is_between('\u{20a0}', '\u{20bd}', c)
-        || is_between('\u{2190}', '\u{2193}', c)
-        || is_between('\u{219a}', '\u{21a8}', c)
-        || is_between('\u{21ab}', '\u{21ff}', c)
-        || is_between('\u{2200}', '\u{22ff}', c)
-        || is_between('\u{239b}', '\u{23ce}', c)
-        || is_between('\u{25ac}', '\u{25b5}', c)
-        || is_between('\u{25b7}', '\u{25bf}', c)
-        || is_between('\u{25c1}', '\u{25fa}', c)
-        || is_between('\u{2605}', '\u{2606}', c)
-        || is_between('\u{2713}', '\u{2713}', c)
-        || is_between('\u{2717}', '\u{2718}', c)
-        || is_between('\u{2768}', '\u{2775}', c)
-        || is_between('\u{2794}', '\u{2794}', c)
-        || is_between('\u{2798}', '\u{27a0}', c)
-        || is_between('\u{2800}', '\u{28ff}', c)
-        || is_between('\u{e0a0}', '\u{e0a2}', c)
-        || is_between('\u{e0b0}', '\u{e0b3}', c)
+    is_between(0x2500, 0x25a9, code)
+        || is_between(0x2010, 0x2027, code)
+        || is_between(0x2030, 0x203b, code)
+        || is_between(0x20a0, 0x20bd, code)
+        || is_between(0x2190, 0x2193, code)
+        || is_between(0x219a, 0x21a8, code)
+        || is_between(0x21ab, 0x21ff, code)
+        || is_between(0x2200, 0x22ff, code)
+        || is_between(0x239b, 0x23ce, code)
+        || is_between(0x25ac, 0x25b5, code)
+        || is_between(0x25b7, 0x25bf, code)
+        || is_between(0x25c1, 0x25fa, code)
+        || is_between(0x2605, 0x2606, code)
+        || is_between(0x2713, 0x2713, code)
+        || is_between(0x2717, 0x2718, code)
+        || is_between(0x2768, 0x2775, code)
+        || is_between(0x2794, 0x2794, code)
+        || is_between(0x2798, 0x27a0, code)
+        || is_between(0x2800, 0x28ff, code)
+        || is_between(0xe0a0, 0xe0a2, code)
+        || is_between(0xe0b0, 0xe0b3, code)
 }
 
-/// Returns whether terminals agree that `c` takes one column.
+/// Returns whether terminals agree that the character with the given code takes one column.
+#[inline(never)]
 #[tactic(auto, unfolding(crate::specs::Certain::is_certain_narrow))]
-fn is_certain_narrow(c: char) -> bool
-    ensures { result ≡ is_certain_narrow c }
+fn is_certain_narrow(code: u32) -> bool
+    ensures { result ≡ is_certain_narrow code }
 {
-    is_between(' ', '~', c) || is_certain_symbol(c) || is_certain_letter(c)
+    is_between(0x20, 0x7e, code) || is_certain_symbol(code) || is_certain_letter(code)
 }
 
-/// Returns whether terminals agree that `c` takes two columns.
+/// Returns whether terminals agree that the character with the given code takes two columns.
+#[inline(never)]
 #[tactic(auto, unfolding(crate::specs::Certain::is_certain_wide))]
-fn is_certain_wide(c: char) -> bool
-    ensures { result ≡ is_certain_wide c }
+fn is_certain_wide(code: u32) -> bool
+    ensures { result ≡ is_certain_wide code }
 {
-    is_between('\u{4e00}', '\u{9fd5}', c)
-        || is_between('\u{ac00}', '\u{d7a3}', c)
-        || is_between('\u{3000}', '\u{3029}', c)
-        || is_between('\u{3041}', '\u{3096}', c)
-        || is_between('\u{309b}', '\u{30ff}', c)
-        || is_between('\u{3105}', '\u{312d}', c)
-        || is_between('\u{3400}', '\u{4db5}', c)
-        || is_between('\u{f900}', '\u{fa6d}', c)
-        || is_between('\u{ff01}', '\u{ff60}', c)
-        || is_between('\u{ffe0}', '\u{ffe6}', c)
+    is_between(0x4e00, 0x9fd5, code)
+        || is_between(0xac00, 0xd7a3, code)
+        || is_between(0x3000, 0x3029, code)
+        || is_between(0x3041, 0x3096, code)
+        || is_between(0x309b, 0x30ff, code)
+        || is_between(0x3105, 0x312d, code)
+        || is_between(0x3400, 0x4db5, code)
+        || is_between(0xf900, 0xfa6d, code)
+        || is_between(0xff01, 0xff60, code)
+        || is_between(0xffe0, 0xffe6, code)
+}
+
+/// Returns the code of the character whose UTF-8 encoding is the two given bytes.
+#[inline(always)]
+#[tactic(auto, using(crate::proofs::Certainty::two_bytes))]
+fn code_of_two(lead: u8, second: u8) -> u32
+    ensures { 0xC0 ≤ lead → lead < 0xE0 → chars (lead ∷ second ∷ []) ≡ result ∷ [] }
+{
+    u32::from(lead).saturating_sub(0xc0) * 64 + u32::from(second).saturating_sub(0x80)
+}
+
+/// Returns the code of the character whose UTF-8 encoding is the three given bytes.
+#[inline(always)]
+#[tactic(auto, using(crate::proofs::Certainty::three_bytes))]
+fn code_of_three(lead: u8, second: u8, third: u8) -> u32
+    ensures { 0xE0 ≤ lead → lead < 0xF0 → chars (lead ∷ second ∷ third ∷ []) ≡ result ∷ [] }
+{
+    let first_bits = u32::from(lead).saturating_sub(0xe0) * 64;
+    (first_bits + u32::from(second).saturating_sub(0x80)) * 64
+        + u32::from(third).saturating_sub(0x80)
 }
 
 /// Returns whether the text is a single character on whose width terminals agree.
 pub fn is_certain_text(text: &str) -> bool
     ensures { result ≡ is_certain_text text.now }
 {
+    // A text of two or three bytes that begins with a lead byte of this length is a single
+    // character.
+    match text.as_bytes() {
+        [lead @ 0xc0..=0xdf, second] => is_certain_code(code_of_two(*lead, *second)),
+        [lead @ 0xe0..=0xef, second, third] => {
+            is_certain_code(code_of_three(*lead, *second, *third))
+        }
+        _ => is_certain_character(text),
+    }
+}
+
+/// Returns whether the text, of any length, is a single character on whose width terminals agree.
+#[inline(never)]
+#[tactic(auto, using(crate::proofs::Certainty::longer))]
+fn is_certain_character(text: &str) -> bool
+    ensures { result ≡ is_certain_text text.now }
+{
+    // A character has at most four bytes.
+    if text.len() > 4 {
+        return false;
+    }
     let mut chars = text.chars();
     let Some(first) = chars.next() else {
         return false;

@@ -3,7 +3,7 @@ use Rattle.std.specs.Option.{MatchOption, is_some}
 use Rattle.std.proofs.StrCases.{chars_of_empty}
 use Rattle.std.proofs.lemmas.Str.{IsUtf8-past_char, chars_past_char}
 use Rattle.vt_redraw.specs.Certain.{are_certain}
-use Rattle.vt_redraw.proofs.certain.is_certain_text.Goals as goal
+use Rattle.vt_redraw.proofs.certain.is_certain_character.Goals as goal
 
 given : (o : Option ℕ) (N : Type 0) (S : ℕ → Type 0) → is_some o ≡ true → MatchOption o N S → (x : ℕ) × S x
 given (Some x) N S t h = (x, h)

@@ -1,0 +1,115 @@
+-- The characters on whose width terminals agree, by ranges of their codes.
+use Rattle.std.proofs.Common.{◌≡◌, ◌<◌, ◌≤◌, ◌+◌, ◌-◌, ◌*◌, ◌||◌, ◌&&◌, ℕ, List, [], ◌∷◌, length, arith, ap, false, true}
+use Rattle.std.proofs.Common.{nat_le, refl}
+use Rattle.std.specs.Char.{encode_utf8}
+use Rattle.std.specs.Str.{IsUtf8, chars, continuation_len, encode_utf8_all, lead_bits}
+use Rattle.std.proofs.lemmas.Bool.Decides.{nat_tests}
+use Rattle.std.proofs.lemmas.List.{length-append}
+use Rattle.std.proofs.lemmas.Str.{encodes-chars}
+use Rattle.vt_cells.proofs.Glyphs.{encode_bounds}
+use Rattle.vt_redraw.specs.Certain.{are_certain, is_between, is_certain, is_certain_letter, is_certain_narrow}
+use Rattle.vt_redraw.specs.Certain.{is_certain_symbol, is_certain_text, is_certain_wide}
+
+-- ---- the ranges that a part of the codes is or is not in
+
+low_symbol : (c : ℕ) → c < 0x2000 → is_certain_symbol c ≡ false
+unfolding is_certain_symbol
+low_symbol c less = grind (arith, nat_tests, less)
+
+low_wide : (c : ℕ) → c < 0x3000 → is_certain_wide c ≡ false
+unfolding is_certain_wide
+low_wide c less = grind (arith, nat_tests, less)
+
+middle_letter : (c : ℕ) → 0x2000 ≤ c → c < 0x3000 → is_certain_letter c ≡ false
+unfolding is_certain_letter
+middle_letter c from less = grind (arith, nat_tests, from, less)
+
+high_letter : (c : ℕ) → 0x3000 ≤ c → c < 0xE000 → is_certain_letter c ≡ false
+unfolding is_certain_letter
+high_letter c from less = grind (arith, nat_tests, from, less)
+
+high_symbol : (c : ℕ) → 0x3000 ≤ c → c < 0xE000 → is_certain_symbol c ≡ false
+unfolding is_certain_symbol
+high_symbol c from less = grind (arith, nat_tests, from, less)
+
+high_narrow : (c : ℕ) → 0x3000 ≤ c → c < 0xE000 → is_certain_narrow c ≡ false
+unfolding is_certain_narrow
+high_narrow c from less = rw (high_letter c from less, high_symbol c from less) (grind (arith, nat_tests, from))
+
+ideograph : (c : ℕ) → 0x4E00 ≤ c → c ≤ 0x9FD5 → is_certain_wide c ≡ true
+unfolding is_certain_wide
+ideograph c from upto = grind (arith, nat_tests, from, upto)
+
+latin : (c : ℕ) → 0xAE ≤ c → c ≤ 0x2FF → is_certain_letter c ≡ true
+unfolding is_certain_letter
+latin c from upto = grind (arith, nat_tests, from, upto)
+
+cyrillic : (c : ℕ) → 0x3A3 ≤ c → c ≤ 0x482 → is_certain_letter c ≡ true
+unfolding is_certain_letter
+cyrillic c from upto = grind (arith, nat_tests, from, upto)
+
+box : (c : ℕ) → 0x2500 ≤ c → c ≤ 0x25A9 → is_certain_symbol c ≡ true
+unfolding is_certain_symbol
+box c from upto = grind (arith, nat_tests, from, upto)
+
+beyond_letter : (c : ℕ) → 0xFFFF < c → is_certain_letter c ≡ false
+unfolding is_certain_letter
+beyond_letter c from = grind (arith, nat_tests, from)
+
+beyond_symbol : (c : ℕ) → 0xFFFF < c → is_certain_symbol c ≡ false
+unfolding is_certain_symbol
+beyond_symbol c from = grind (arith, nat_tests, from)
+
+beyond_wide : (c : ℕ) → 0xFFFF < c → is_certain_wide c ≡ false
+unfolding is_certain_wide
+beyond_wide c from = grind (arith, nat_tests, from)
+
+-- ---- the certain characters of each part
+
+pub beyond : (c : ℕ) → 0xFFFF < c → is_certain c ≡ false
+unfolding is_certain_narrow
+beyond c from = rw (beyond_letter c from, beyond_symbol c from, beyond_wide c from) (grind (arith, nat_tests, from))
+
+pub below_symbols : (c : ℕ) → c < 0x2000 →
+    (is_between 0x20 0x7E c || (is_between 0xAE 0x2FF c || (is_between 0x3A3 0x482 c || is_certain_letter c)))
+    ≡ is_certain c
+unfolding is_certain_narrow
+below_symbols c less =
+    rw (low_symbol c less, low_wide c (omega (arith, less))) (grind (arith, nat_tests, latin c, cyrillic c))
+
+pub among_symbols : (c : ℕ) → 0x2000 ≤ c → c < 0x3000 →
+    (is_between 0x2500 0x25A9 c || is_certain_symbol c) ≡ is_certain c
+unfolding is_certain_narrow
+among_symbols c from less =
+    rw (middle_letter c from less, low_wide c less) (grind (arith, nat_tests, box c, from))
+
+pub after_symbols : (c : ℕ) → 0x3000 ≤ c →
+    (is_between 0x4E00 0x9FD5 c || (is_certain_wide c || (nat_le 0xE000 c && is_certain_narrow c))) ≡ is_certain c
+after_symbols c from = grind (arith, nat_tests, high_narrow c from, ideograph c, from)
+
+-- ---- texts of two and three bytes, and longer ones
+
+pub two_bytes : (a b : ℕ) → 0xC0 ≤ a → a < 0xE0 → chars (a ∷ b ∷ []) ≡ ((a - 0xC0) * 64 + (b - 0x80)) ∷ []
+unfolding chars
+two_bytes a b from less =
+    let len : continuation_len a ≡ 1 = grind (arith, nat_tests, from, less) in
+    let bits : lead_bits a ≡ a - 0xC0 = grind (arith, nat_tests, from, less) in
+    rw (len, bits) refl
+
+pub three_bytes : (a b c : ℕ) → 0xE0 ≤ a → a < 0xF0 →
+    chars (a ∷ b ∷ c ∷ []) ≡ (((a - 0xE0) * 64 + (b - 0x80)) * 64 + (c - 0x80)) ∷ []
+unfolding chars
+three_bytes a b c from less =
+    let len : continuation_len a ≡ 2 = grind (arith, nat_tests, from, less) in
+    let bits : lead_bits a ≡ a - 0xE0 = grind (arith, nat_tests, from, less) in
+    rw (len, bits) refl
+
+pub longer : (text : List ℕ) → IsUtf8 text → 4 < length text → is_certain_text text ≡ false
+longer text utf8 more = by_chars (chars text) (encodes-chars text utf8) where
+  by_chars : (cs : List ℕ) → encode_utf8_all cs ≡ text → are_certain cs ≡ false
+  by_chars [] e = refl
+  by_chars (c ∷ []) e =
+      let bounds = encode_bounds c in
+      let sum = length-append (encode_utf8 c) [] in
+      let same = ap length e in absurd (omega (arith, more))
+  by_chars (c ∷ d ∷ cs) e = refl
