@@ -1,29 +1,104 @@
--- Sending texts in several calls.
-use Rattle.std.proofs.Common.{◌≡◌, ℕ, zero, suc, ◌+◌, ◌-◌, ◌<◌, false, List, [], ◌∷◌, ◌++◌, length, take, drop, get_or}
-use Rattle.std.proofs.Common.{Ok, Some, inl, inr, refl, sym, ap, subst, ◌∙◌, append_assoc, arith}
+-- Sending texts to a remote terminal, in one call or in several.
+use Rattle.std.proofs.Common.{◌≡◌, false, inl, inr, sym, ◌∙◌, ℕ, ◌<◌, ◌^◌, List, [], ◌∷◌, ◌++◌, refl, subst, ap, zero}
+use Rattle.std.proofs.Common.{suc, ◌+◌, ◌-◌, length, take, drop, get_or, Ok, Some, append_assoc, arith}
 use Rattle.std.proofs.lemmas.Bool.{false≢true}
-use Rattle.std.proofs.lemmas.List.{append-nil, length-drop, take-append-drop, take_all, take_more}
-use Rattle.std.specs.List.{AllByRecursion, FoldsTo}
+use Rattle.std.proofs.lemmas.List.{length-replicate, append-nil, length-drop, take-append-drop, take_all, take_more}
+use Rattle.std.specs.List.{FoldsTo, AllByRecursion}
 use Rattle.std.specs.Prelude.{Result}
-use Rattle.vt_cells.specs.Op.{bytes_of_all}
 use Rattle.vt_cells.specs.declared.error.Error.{Error}
-use Rattle.vt_grid.specs.Page.{Page, SameSize}
-use Rattle.vt_redraw.specs.Picture.{SamePictureSize}
-use Rattle.vt_redraw.specs.Redraw.{difference, redraw}
-use Rattle.vt_redraw.specs.Steady.{IsSteady}
-use Rattle.vt_rows.proofs.Folds.{folds_then}
-use Rattle.vt_scan.specs.Automaton.{State}
+use Rattle.vt_cells.specs.Attrs.{default_attrs}
+use Rattle.vt_cells.specs.Op.{bytes_of_all}
+use Rattle.vt_rows.specs.Row.{blank_row}
+use Rattle.vt_rows.proofs.RowTexts.{folds_then}
+use Rattle.vt_scan.specs.Automaton.{start, State}
 use Rattle.vt_scan.specs.Scanner.{StandsFor}
+use Rattle.vt_grid.specs.Page.{SameSize, Page}
+use Rattle.vt_redraw.specs.Picture.{SamePictureSize}
+use Rattle.vt_redraw.specs.Steady.{IsSteady}
+use Rattle.vt_redraw.specs.Redraw.{difference, redraw}
+use Rattle.vt_screen.specs.Screen.{IsScreen, ScreenValue, fresh_screen}
+use Rattle.vt_screen.specs.Reading.{terminal, Terminal, terminal_after}
+use Rattle.vt_screen.specs.Shown.{IsPlain, IsReader, IsReaderOf, KeepsRest, Redraws, display}
 use Rattle.vt_screen.specs.Chain.{CanShowOn, chain_text, last_screen}
-use Rattle.vt_screen.specs.Reading.{Terminal, terminal_after, terminal}
-use Rattle.vt_screen.specs.Screen.{IsScreen, ScreenValue}
-use Rattle.vt_screen.specs.Shown.{display}
-use Rattle.vt100.specs.Parser.{ParserValue}
-use Rattle.vt100.specs.Pieces.{HasRead, IsFine, IsPlainParser, Processes, Processing, ShowsLast, bytes_in, processing}
+use Rattle.vt_screen.proofs.Shown.{shown_height}
+use Rattle.vt100.specs.Parser.{ParserValue, Ran, does_nothing}
+use Rattle.vt100.specs.Streams.{IsFreshParser}
+use Rattle.vt100.specs.Pieces.{IsPlainParser, Processes, processing, HasRead, IsFine, Processing, ShowsLast, bytes_in}
 use Rattle.vt_mirror.proofs.Runs.{all_of_more, last_of_more, text_of_more}
 use Rattle.example_contracts.specs.Failing.{IsFailure}
-use Rattle.example_contracts.specs.Remote.{HasFollowed, HasTaken, IsCut, IsWhole, SendsNext, ShowsScreen}
-use Rattle.example_contracts.proofs.Remote.{same_shown}
+use Rattle.example_contracts.specs.Remote.{ShowsScreen, HasFollowed, HasTaken, IsCut, IsWhole, SendsNext}
+
+-- ==== The reasons why the second of two calls fails.
+
+-- If the terminal had not failed before the second of two calls, that call can fail only because an allocation does.
+pub fails_second : {S : Type 0} (before between : ParserValue S) (error : Error)
+    → between.is_failed ≡ false → IsFailure between error → IsFailure before error
+fails_second before between error fine (inl refused) = inl refused
+fails_second before between error fine (inr failed) = absurd (false≢true (sym fine ∙ failed.1))
+
+-- ==== New parsers, and runs in sequence.
+
+pub fresh_parser : {S : Type 0} (rows cols capacity : ℕ) (p : ParserValue S) → 0 < rows → 0 < cols → IsScreen p.screen →
+    StandsFor p.scanner start → p.screen ≡ fresh_screen rows cols capacity → IsFreshParser rows cols capacity p
+fresh_parser rows cols capacity p tall wide sound begun shown =
+    let page = (subst (λ (s : ScreenValue). IsScreen s) shown sound).page in
+    record {
+      has_rows = tall;
+      few_rows = subst (λ (n : ℕ). n < 2 ^ 16) (length-replicate rows (blank_row default_attrs cols)) page.height;
+      has_columns = wide;
+      few_columns = page.columns;
+      ground = begun;
+      shown = shown;
+    }
+
+pub ran_more : (pieces : List (List ℕ)) (piece : List ℕ) (p q r : ParserValue (Unit {0})) →
+    FoldsTo (Ran does_nothing) p pieces q → Ran does_nothing q piece r → FoldsTo (Ran does_nothing) p (pieces ++ (piece ∷ [])) r
+ran_more pieces piece p q r folds ran = folds_then (Ran does_nothing) pieces (piece ∷ []) p q r folds (r, ran, refl)
+
+-- ==== Sending a text to a remote terminal.
+
+-- A plain terminal that parses the text displays the screen.
+reads : {S : Type 0} (self : ScreenValue) (Reader : ScreenValue → Type 0)
+    (text : List ℕ) (answer : Result (Unit {0}) Error) (old new : ParserValue S)
+    → Redraws (display self) Reader KeepsRest text → IsSteady (display self)
+    → IsPlainParser old → Reader old.screen → Processes old (processing text answer) new → ShowsScreen self new
+reads self Reader text answer old new redraws steady plain reader processes =
+    let ends = redraws.quiet steady old.screen reader in
+    let all = (processes start (terminal start ends.0) plain.is_failed plain.scanner ends.1).1 in
+    let made = redraws.shows steady old.screen ends.0 reader ends.1 in
+    record {
+      plain =
+          record { is_failed = all.is_failed; scanner = all.scanner; screen = subst IsPlain (sym all.screen) made.0 };
+      shows = ap display all.screen ∙ made.1;
+    }
+
+pub redrawn : {S : Type 0} (self : ScreenValue) (text : List ℕ) (answer : Result (Unit {0}) Error) (old new : ParserValue S)
+    → Redraws (display self) (IsReader (display self)) KeepsRest text → IsSteady (display self)
+    → IsScreen old.screen → IsPlainParser old → SamePictureSize (display self) (display old.screen)
+    → Processes old (processing text answer) new → ShowsScreen self new
+redrawn self text answer old new redraws steady sound plain size processes =
+    reads self (IsReader (display self)) text answer old new redraws steady plain
+    (record { sound = sound; plain = plain.screen; size = size }) processes
+
+pub same_shown : (self other : ScreenValue) → SameSize self.page other.page → SamePictureSize (display self) (display other)
+same_shown self other s = record { width = s.width; height = shown_height self ∙ (s.height ∙ sym (shown_height other)) }
+
+pub differing : {S : Type 0} (self prev : ScreenValue) (text : List ℕ)
+    (answer : Result (Unit {0}) Error) (old new : ParserValue S)
+    → Redraws (display self) (IsReaderOf (display self) (display prev)) KeepsRest text → IsSteady (display self)
+    → SameSize self.page prev.page
+    → IsScreen old.screen → ShowsScreen prev old → Processes old (processing text answer) new → ShowsScreen self new
+differing self prev text answer old new redraws steady size sound was processes =
+    reads self (IsReaderOf (display self) (display prev)) text answer old new redraws steady was.plain (record {
+      is = record {
+        sound = sound;
+        plain = was.plain.screen;
+        size = subst (SamePictureSize (display self)) (sym was.shows) (same_shown self prev size);
+      };
+      shows = was.shows;
+    }) processes
+
+-- ==== Sending texts in several calls.
 
 -- ---- Calls in sequence
 

@@ -108,7 +108,7 @@ pub fn send_short_difference<CB: Callbacks>(
 ///
 /// Returns [`Error::OutOfMemory`] if an allocation fails, and [`Error::Failed`] if the remote
 /// terminal failed before.
-#[tactic(auto, using(crate::proofs::Failing::fails_second))]
+#[tactic(auto, using(crate::proofs::Sending::fails_second))]
 pub fn send_both<CB: Callbacks>(
     first: &Screen,
     second: &Screen,

@@ -1,31 +1,40 @@
--- The effect of bytes that are read without callbacks or allocations is the same in every run.
-use Rattle.std.specs.Prelude.{if◌then◌else◌, is_some}
+-- Bytes that are read without callbacks or allocations have the same effect in every run and in any chunks.
 use Rattle.std.proofs.Common.{◌≡◌, ◌==◌, ◌⊎◌, ℕ, zero, suc, ◌+◌, ◌<◌, min, inl, inr, Bool, true, false, List, [], ◌∷◌}
-use Rattle.std.proofs.Common.{◌++◌, length, take, Option, Some, None, cond, refl, sym, subst, ap, ◌∙◌, arith}
-use Rattle.std.specs.List.{FoldsTo}
+use Rattle.std.proofs.Common.{◌++◌, length, take, Option, Some, None, cond, refl, sym, subst, ap, ◌∙◌, arith, map}
+use Rattle.std.specs.Prelude.{if◌then◌else◌, is_some}
+use Rattle.std.specs.List.{FoldsTo, AllByRecursion}
 use Rattle.std.proofs.lemmas.Bool.{false≢true}
+use Rattle.vt_cells.specs.Glyph.{columns_of}
+use Rattle.vt_rows.specs.Row.{RowValue}
+use Rattle.vt_scan.specs.Automaton.{State, Event, step_in, start}
+use Rattle.vt_scan.specs.Run.{run}
+use Rattle.vt_scan.specs.Scanner.{ScannerValue, StandsFor}
+use Rattle.vt_scan.specs.Table.{class_of, transition_of}
 use Rattle.vt_grid.specs.Printing.{pushes}
 use Rattle.vt_grid.specs.Moves.{feeds_out}
 use Rattle.vt_grid.specs.Outgoing.{left_by}
 use Rattle.vt_grid.specs.Scrollback as room
 use Rattle.vt_grid.specs.Scrollback.{Scrollback, scrollback_after_push, rows_reported}
-use Rattle.vt_rows.specs.Row.{RowValue}
-use Rattle.vt_cells.specs.Glyph.{columns_of}
-use Rattle.vt_scan.specs.Automaton.{State, Event, step_in}
-use Rattle.vt_scan.specs.Run.{run}
-use Rattle.vt_scan.specs.Scanner.{ScannerValue, StandsFor}
-use Rattle.vt_scan.specs.Table.{class_of, transition_of}
-use Rattle.vt_screen.specs.Screen.{ScreenValue, above_page}
+use Rattle.vt_screen.specs.Screen.{ScreenValue, above_page, IsScreen}
 use Rattle.vt_screen.specs.Run as act
 use Rattle.vt_screen.specs.Run.{CallRelation, Performs, Breaks, CalledOnScroll, Refuses, StopsIn, Takes, state}
 use Rattle.vt_screen.specs.Controls.{seen_of, steps_of}
 use Rattle.vt_screen.specs.Steps.{Step, Print, LineFeed, ScrollUp, OnPage, SaveCursor, RestoreCursor, EnterAlternate}
 use Rattle.vt_screen.specs.Steps.{EnterFresh, LeaveAlternate, LeaveRestoring, Reset, EraseScrollback, Render}
 use Rattle.vt_screen.specs.Steps.{HideCursor, SetMode, CallBack, Grows, rows_scrolled_off, display_after}
-use Rattle.vt_screen.specs.Reading.{Terminal, terminal, grows, quiet_step, quiet_steps, quiet_events, terminal_after, read_byte}
-use Rattle.vt_screen.proofs.Readback.{and_then-some}
-use Rattle.vt100.specs.Parser.{IsHarmless, ParserValue, Ran, Stopped, Collects, stage}
-use Rattle.vt100.proofs.Running.{folds_parted}
+use Rattle.vt_screen.specs.Reading.{Terminal, terminal, grows, quiet_step, quiet_steps, quiet_events, terminal_after}
+use Rattle.vt_screen.specs.Reading.{read_byte}
+use Rattle.vt_screen.specs.Chain.{CanShowOn, chain_text, last_screen}
+use Rattle.vt_screen.specs.Shown.{IsPlain, KeepsRest, display}
+use Rattle.vt_screen.proofs.ReadOperations.{and_then-some}
+use Rattle.vt_screen.proofs.ReadRedraws.{chain_read}
+use Rattle.vt_screen.proofs.ReadTexts.{reads_append}
+use Rattle.vt100.specs.Parser.{IsHarmless, ParserValue, Ran, Stopped, Collects, stage, pieces_joined}
+use Rattle.vt100.specs.Pieces.{Processing, Processes, IsFine, HasRead, IsPlainParser, ShowsLast, bytes_in}
+use Rattle.vt100.specs.Streams.{MakesCall, Process}
+use Rattle.vt100.proofs.Running.{folds_parted, ran_joined}
+
+-- ==== The effect of bytes that are read without callbacks or allocations is the same in every run.
 
 abbrev IsNone : {A : Type 0} → Option A → Type 0
 IsNone None = Unit {0}
@@ -332,3 +341,83 @@ pub quietly_harmless : {S : Type 0} (does : CallRelation S)
     StandsFor p.scanner s → terminal_after (terminal s p.screen) bytes ≡ Some t → IsHarmless does p bytes
 quietly_harmless does p bytes s t stands told q stopped =
     never_refused does p p q bytes s t refl refl stopped stands told
+
+-- ==== Bytes that are read without callbacks or allocations can be read in any chunks without callbacks or allocations.
+
+pub read_pieces : {S : Type 0} (p q : ParserValue S) (calls : List Processing) (state : State) (after : Terminal)
+    → p.is_failed ≡ false → StandsFor p.scanner state → terminal_after (terminal state p.screen) (bytes_in calls) ≡ Some after
+    → FoldsTo Processes p calls q → AllByRecursion IsFine calls × HasRead p after q
+read_pieces {S} p q [] state after ready stands told folds =
+    let same : terminal state p.screen ≡ after = same_some (terminal state p.screen) after told in (
+      tt,
+      subst (λ (r : ParserValue S). HasRead p after r) folds (record {
+        is_failed = ready;
+        scanner = subst (λ (t : Terminal). StandsFor p.scanner t.scan) same stands;
+        screen = ap (λ (t : Terminal). t.screen) same;
+        callbacks = refl;
+      }),
+    )
+read_pieces {S} p q (call ∷ calls) state after ready stands told folds =
+    let mid = and_then-some (λ (u : Terminal). terminal_after u (bytes_in calls)) (terminal_after (terminal state p.screen) call.bytes)
+    after (sym (reads_append (terminal state p.screen) call.bytes (bytes_in calls)) ∙ told) in
+    let next : ParserValue S = folds.0 in
+    let here = folds.1 state mid.0 ready stands mid.1 in
+    let one : HasRead p mid.0 next = here.1 in
+    let behind : terminal_after (terminal mid.0.scan next.screen) (bytes_in calls) ≡ Some after =
+    ap (λ (s : ScreenValue). terminal_after (terminal mid.0.scan s) (bytes_in calls)) one.screen ∙ mid.2 in
+    let rest = read_pieces next q calls mid.0.scan after one.is_failed one.scanner behind folds.2 in
+    let all : HasRead next after q = rest.1 in (
+      (here.0, rest.0),
+      record {
+        is_failed = all.is_failed;
+        scanner = all.scanner;
+        screen = all.screen;
+        callbacks = all.callbacks ∙ one.callbacks;
+      },
+    )
+
+pub chain_pieces : {S : Type 0} (self : ScreenValue)
+    (nexts : List ScreenValue) (p q : ParserValue S) (calls : List Processing)
+    → IsScreen p.screen → IsPlainParser p → CanShowOn p.screen self → AllByRecursion (CanShowOn p.screen) nexts
+    → bytes_in calls ≡ chain_text self nexts → FoldsTo Processes p calls q
+    → AllByRecursion IsFine calls × ShowsLast p (last_screen self nexts) q
+chain_pieces {S} self nexts p q calls is plain c cs bytes folds =
+    let chain = chain_read self nexts p.screen is plain.screen c cs in
+    let done = read_pieces p q calls start (terminal start chain.after) plain.is_failed
+    plain.scanner (ap (terminal_after (terminal start p.screen)) bytes ∙ chain.reads) folds in
+    let all : HasRead p (terminal start chain.after) q = done.1 in (
+      done.0,
+      record {
+        plain = record {
+          is_failed = all.is_failed;
+          scanner = all.scanner;
+          screen = subst IsPlain (sym all.screen) chain.shows.0;
+        };
+        shows = ap display all.screen ∙ chain.shows.1;
+        rest = subst (KeepsRest p.screen) (sym all.screen) chain.rest;
+        callbacks = all.callbacks;
+      },
+    )
+
+-- ---- runs
+
+pub ran_read : {S : Type 0} (does : CallRelation S)
+    (p q : ParserValue S) (bytes : List ℕ) (state : State) (after : Terminal)
+    → StandsFor p.scanner state → terminal_after (terminal state p.screen) bytes ≡ Some after
+    → Ran does p bytes q → q.is_failed ≡ false → HasRead p after q
+ran_read does p q bytes state after stands told ran fine =
+    let quiet = ran_quietly does p q bytes state after ran stands told in
+    record { is_failed = fine; scanner = quiet.0; screen = quiet.1; callbacks = quiet.2 }
+
+made_ran : {S : Type 0} (does : CallRelation S) (p q : ParserValue S) (pieces : List (List ℕ)) →
+    FoldsTo (MakesCall does) p (map Process pieces) q → FoldsTo (Ran does) p pieces q
+made_ran does p q [] t = t
+made_ran does p q (piece ∷ pieces) t = (t.0, t.1, made_ran does t.0 q pieces t.2)
+
+pub made_read : {S : Type 0} (does : CallRelation S)
+    (p q : ParserValue S) (pieces : List (List ℕ)) (state : State) (after : Terminal)
+    → StandsFor p.scanner state → terminal_after (terminal state p.screen) (pieces_joined pieces) ≡ Some after
+    → FoldsTo (MakesCall does) p (map Process pieces) q → q.is_failed ≡ false → HasRead p after q
+made_read does p q pieces state after stands told made fine =
+    ran_read does p q (pieces_joined pieces) state after stands told
+    (ran_joined does p q pieces (made_ran does p q pieces made)) fine

@@ -28,7 +28,7 @@ use vt_screen::{Callbacks, ModeStep, Screen};
 /// Returns `Error::OutOfMemory` if an allocation fails. The steps before the
 /// failing one remain in effect.
 #[inline(always)]
-#[tactic(auto, using(crate::proofs::Dispatching::by_intermediates))]
+#[tactic(auto, using(crate::proofs::Stepping::by_intermediates))]
 pub fn perform<CB: Callbacks>(
     screen: &mut Screen,
     callbacks: &mut CB,
@@ -90,7 +90,7 @@ fn unmarked<CB: Callbacks>(
 /// Returns `Error::OutOfMemory` if an allocation fails. The steps before the
 /// failing one remain in effect.
 #[inline(never)]
-#[tactic(auto, using(crate::proofs::Dispatching::by_counts))]
+#[tactic(auto, using(crate::proofs::Stepping::by_counts))]
 fn unmarked_by_table<CB: Callbacks>(
     screen: &mut Screen,
     callbacks: &mut CB,

@@ -9,7 +9,7 @@ use vt_screen::{Callbacks, Screen};
 
 /// Invokes the callbacks that an operating system command calls for, or reports
 /// an unknown command.
-#[tactic(auto, using(crate::proofs::Stepping::called, crate::proofs::Remaining::parts_counted))]
+#[tactic(auto, using(crate::proofs::Stepping::called, crate::proofs::Stepping::parts_counted))]
 pub fn perform<CB: Callbacks>(screen: &mut Screen, callbacks: &mut CB, parts: &[&[u8]])
     ensures { Does CB.does callbacks.old screen.old
         (osc_steps (map (λ part. part.now) parts.now)) callbacks.new screen.new }

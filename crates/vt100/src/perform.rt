@@ -160,7 +160,7 @@ fn is_reported(character: char) -> bool
 /// Returns `Error::OutOfMemory` if there is not enough memory to keep a row that scrolls off the
 /// top. On error, the screen is unchanged.
 #[inline]
-#[tactic(auto, using(crate::proofs::Stepping::tested_refusal, crate::proofs::Deciding::control_feeds))]
+#[tactic(auto, using(crate::proofs::Stepping::tested_refusal, crate::proofs::Stepping::control_feeds))]
 pub fn execute<CB: Callbacks>(
     screen: &mut Screen,
     callbacks: &mut CB,

@@ -49,7 +49,7 @@ pub fn perform<CB: Callbacks>(
 ///
 /// Returns `Error::OutOfMemory` if the alternate page cannot be allocated. On error, the screen is
 /// unchanged.
-#[tactic(auto, using(crate::proofs::Stepping::called, crate::proofs::Remaining::groups_met))]
+#[tactic(auto, using(crate::proofs::Stepping::called, crate::proofs::Stepping::groups_met))]
 fn perform_group<CB: Callbacks>(
     screen: &mut Screen,
     callbacks: &mut CB,

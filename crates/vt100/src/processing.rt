@@ -394,7 +394,7 @@ fn print_narrow_fitting(
 /// Returns `Error::OutOfMemory` if an allocation fails. The steps before the
 /// failing one remain in effect.
 #[inline(always)]
-#[tactic(auto, using(vt_rows::proofs::Folds::folds_then, crate::proofs::Running::stops_later))]
+#[tactic(auto, using(vt_rows::proofs::RowTexts::folds_then, crate::proofs::Running::stops_later))]
 fn perform_each<CB: Callbacks>(
     scanner: &Scanner,
     screen: &mut Screen,

@@ -8,7 +8,7 @@ use Rattle.std.specs.List.{FoldsTo}
 use Rattle.vt_scan.specs.Automaton.{Event, State, Step}
 use Rattle.vt_scan.specs.Run.{run}
 use Rattle.vt_scan.specs.Scanner.{HasNoEvent, StandsFor}
-use Rattle.vt_scan.proofs.Running.{run-append}
+use Rattle.vt_scan.proofs.Readback.{run-append}
 use Rattle.vt_screen.specs.Run.{Performs}
 use Rattle.vt100.specs.Calls.{ParserReadsUnit}
 use Rattle.std.specs.Prelude.{Result, Ok, Err, IfErr, IfOk, IsErr}

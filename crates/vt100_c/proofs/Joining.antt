@@ -5,7 +5,7 @@ use Rattle.std.proofs.lemmas.List.Folds.{concat-append}
 use Rattle.std.specs.List.{concat}
 use Rattle.std.specs.Prelude.{Some, Ok, Result, String, string_bytes}
 use Rattle.vt_cells.specs.declared.error.Error.{Error}
-use Rattle.vt_screen.specs.RowItems.{GivesText}
+use Rattle.vt_screen.specs.RowsShown.{GivesText}
 use Rattle.vt100_c.specs.Rows.{IsJoined, ends_from}
 
 concat-push : (texts : List (List ℕ)) (text : List ℕ) → concat (texts ++ text ∷ []) ≡ concat texts ++ text

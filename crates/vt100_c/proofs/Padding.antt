@@ -2,7 +2,7 @@
 use Rattle.std.proofs.Common.{◌≡◌, ◌≤◌, ◌++◌, ℕ, List, length, drop, replicate, arith}
 use Rattle.std.proofs.lemmas.List.{drop-replicate}
 use Rattle.vt_cells.specs.Cell.{CellValue, blank, glyph, right_half, IsCell, text_of}
-use Rattle.vt_cells.specs.CellInternals.{padded_text}
+use Rattle.vt_cells.specs.Internals.{padded_text}
 use Rattle.vt_cells.proofs.Glyphs.{IsGlyphText-length}
 
 pub short : (cell : CellValue) → IsCell cell → length (text_of cell) ≤ 29

@@ -13,10 +13,9 @@ use Rattle.vt_screen.specs.Portable.{IsPortableFrom}
 use Rattle.vt_screen.specs.Screen.{ScreenValue}
 use Rattle.vt_screen.specs.ShortMoves.{IsMovingOrRedraw}
 use Rattle.vt_screen.specs.Shown.{IsSameIfEmpty, RedrawsFrom, display, display_change_in, shown_text, shown_text_in}
-use Rattle.vt_screen.specs.InputTexts.{input_change}
-use Rattle.vt_screen.specs.States.{AreModes, GivesState, IsEmptyIfSameState, IsSameStateIfEmpty, IsStateReaderOf}
-use Rattle.vt_screen.specs.StatesWith.{DrawsThenSets, IsStateDiffWith, SetsModesOnScreens, state_change_in}
-use Rattle.vt_screen.specs.StatesWith.{state_diff_controls}
+use Rattle.vt_screen.specs.States.{input_change, AreModes, GivesState, IsEmptyIfSameState, IsSameStateIfEmpty}
+use Rattle.vt_screen.specs.States.{IsStateReaderOf, DrawsThenSets, IsStateDiffWith, SetsModesOnScreens, state_change_in}
+use Rattle.vt_screen.specs.States.{state_diff_controls}
 use Rattle.vt_screen.specs.TextResults.{IfText}
 use Rattle.vt_screen.specs.declared.diff_options.DiffOptions.{DiffOptions}
 use Rattle.vt100_c.specs.Texts.{IsDiffWithOptions, IsScrollingDiff, IsStateDiffWithOptions}

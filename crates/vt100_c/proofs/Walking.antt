@@ -7,7 +7,7 @@ use Rattle.vt_rows.specs.CaptureRows.{AreRowsFrom, AreRowsOf, IsAfterEnd, IsAfte
 use Rattle.vt_rows.specs.Pieces.{AreApart, ArePiecesOf, IsInSome, IsPieceOf, Piece, piece_end}
 use Rattle.vt_rows.specs.Stretches.{IsInStretch}
 use Rattle.vt_rows.proofs.CutRows.{rows_are_one}
-use Rattle.vt_rows.proofs.OnePieces.{pieces_are_one}
+use Rattle.vt_rows.proofs.CaptureRows.{pieces_are_one}
 use Rattle.std.specs.Prelude.{chars}
 use Rattle.vt100_c.specs.Captures.{IsFirstPiece, IsFirstRow, IsPlace, no_place}
 use Rattle.vt100_c.specs.Walking.{ArePlacesOfPieces, ArePlacesOfRows, FindAllPlain, FindAllRows, FindsRow, place_from}

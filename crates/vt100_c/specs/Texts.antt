@@ -13,7 +13,10 @@ use Rattle.vt_screen.specs.declared.diff_options.DiffOptions.{DiffOptions}
 use Rattle.vt_screen.specs.declared.redraw_options.RedrawOptions.{RedrawOptions}
 use Rattle.vt_screen.specs.declared.repeat.Repeat.{Repeat}
 use Rattle.vt_screen.specs.declared.repeat.Repeat.TheVariants.{Never, Ascii, Any}
-use Rattle.vt_screen.specs.InputTexts.{input_change, input_text}
+use Rattle.vt_screen.specs.States.{input_change, input_text, AreModes, GivesState, IsEmptyIfSameState}
+use Rattle.vt_screen.specs.States.{IsSameStateIfEmpty, IsStateReaderOf, state_change, state_text, DrawsThenSets}
+use Rattle.vt_screen.specs.States.{IsStateDiffWith, SetsModesOnScreens, state_change_in, state_diff_controls}
+use Rattle.vt_screen.specs.States.{state_text_in}
 use Rattle.vt_screen.specs.MadeOf.{IsMadeOf, shortened_controls, shortened_finals}
 use Rattle.vt_screen.specs.Screen.{ScreenValue, visible_rows}
 use Rattle.vt_screen.specs.ShortMoves.{IsMovingOrRedraw}
@@ -21,10 +24,6 @@ use Rattle.vt_screen.specs.Shown.{IsSameIfEmpty, RedrawsFrom, attributes_text, d
 use Rattle.vt_screen.specs.Portable.{IsPortableFrom}
 use Rattle.vt_screen.specs.Shown.{form_of, shown_text, shown_text_in}
 use Rattle.vt_screen.specs.Portable.{IsPortableFrom}
-use Rattle.vt_screen.specs.States.{AreModes, GivesState, IsEmptyIfSameState, IsSameStateIfEmpty, IsStateReaderOf}
-use Rattle.vt_screen.specs.States.{state_change, state_text}
-use Rattle.vt_screen.specs.StatesWith.{DrawsThenSets, IsStateDiffWith, SetsModesOnScreens, state_change_in}
-use Rattle.vt_screen.specs.StatesWith.{state_diff_controls, state_text_in}
 use Rattle.vt100_c.specs.Due.{HoldBoth, HoldsScreen, any_screen, any_screens, sizes_status, source_at, start_status, text_at}
 use Rattle.vt100_c.specs.Status.{ok, out_of_memory}
 use Rattle.vt100_c.specs.declared.output.Difference.{Difference}

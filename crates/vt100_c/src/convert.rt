@@ -2,7 +2,7 @@
 
 ghost use Rattle.std.specs.Prelude.{◌≡◌, length};
 ghost use Rattle.vt_cells.specs.Cell.{text_of};
-ghost use Rattle.vt_cells.specs.CellInternals.{padded_text};
+ghost use Rattle.vt_cells.specs.Internals.{padded_text};
 ghost use Rattle.vt100_c.specs.Shown.{bit, cell_flags, cell_for_c, color_for_c, cursor_style_number};
 ghost use Rattle.vt100_c.specs.Shown.{mouse_encoding_number, mouse_mode_number, state_for_c, style_flags};
 

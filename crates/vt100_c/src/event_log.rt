@@ -45,7 +45,7 @@ pub struct Events {
 impl Model for Events {
     ghost use Rattle.std.specs.Prelude.{◌≤◌, length, take};
     ghost use Rattle.vt100_c.specs.Records.{Logged};
-    ghost use Rattle.vt_grid.specs.Spare.{AreRows};
+    ghost use Rattle.vt_grid.specs.Internals.{AreRows};
 
     ghost Value = { Logged };
 

@@ -10,7 +10,7 @@ ghost use Rattle.std.specs.List.{flat_map};
 ghost use Rattle.vt100_c.specs.Records.{bit_of, group_of, is_wanted, kind_of, number_of, part_of};
 ghost use Rattle.vt100_c.specs.Records.{record_of, record_with, without_text};
 ghost use Rattle.vt_rows.specs.Plain.{plain_text};
-ghost use Rattle.vt_grid.specs.Spare.{AreRows};
+ghost use Rattle.vt_grid.specs.Internals.{AreRows};
 ghost use Rattle.vt_rows.specs.Row.{IsRow, trimmed_row};
 ghost use Rattle.vt_screen.specs.Calls as calls;
 ghost use Rattle.vt_screen.specs.Meanings.{call_of};

@@ -1,20 +1,128 @@
--- Texts of glyphs: the first character, and one more combining character.
-use Rattle.std.proofs.Common.{◌≡◌, ◌≢◌, ℕ, ◌+◌, ◌<◌, ◌≤◌, Bool, true, false, List, [], ◌∷◌, ◌++◌}
-use Rattle.std.proofs.Common.{length, Some, if◌then◌else◌, refl, arith, ap, sym, ◌∙◌, append_assoc}
-use Rattle.std.proofs.Common.{append-nil, length-append, IsUtf8, subst, lit<, lit≤}
-use Rattle.unicode_width.proofs.Computing.{unicode_width}
-use Rattle.vt_cells.proofs.Widths.{columns_of-ascii}
-use borrow.Author.Tests.{ltb-true}
+-- Texts of glyphs: widths of characters, combining characters and UTF-8.
+use Rattle.std.proofs.Common.{◌≡◌, ℕ, ◌<◌, ◌≤◌, min, false, Option, Some, None, refl, arith, Bool, true, not, ◌||◌}
+use Rattle.std.proofs.Common.{List, [], ◌∷◌, ◌≢◌, ◌+◌, ◌++◌, length, if◌then◌else◌, ap, sym, ◌∙◌, append_assoc}
+use Rattle.std.proofs.Common.{append-nil, length-append, IsUtf8, subst, lit<, lit≤, ◌/◌, ◌%◌}
+use Rattle.std.proofs.lemmas.Bool.Decides.{nat_tests}
+use Rattle.ucd_table.specs.Rows.{Range, in_ranges}
+use Rattle.ucd_table.proofs.Computing.{tables}
+use Rattle.ucd_table.proofs.Facts.{Stepped-always}
+use Rattle.ucd_table.proofs.Stepped.{of_ranges, zip_stepped}
 use Rattle.std.specs.Char.{encode_utf8, IsScalar}
 use Rattle.std.specs.List.{list_any, AllByRecursion}
-use Rattle.std.proofs.lemmas.Bool.Decides.{nat_tests}
 use Rattle.std.proofs.lemmas.List.Folds.{list_any-append}
-use Rattle.std.proofs.lemmas.Str.{length-encode, len_utf8_bounds, encode_ascii}
-use Rattle.std.proofs.lemmas.Str.{IsUtf8-encode, IsUtf8-append, chars-encodes}
+use Rattle.std.proofs.lemmas.Str.{length-encode, len_utf8_bounds, encode_ascii, IsUtf8-encode, IsUtf8-append}
+use Rattle.std.proofs.lemmas.Str.{chars-encodes}
 use Rattle.std.specs.Str.{chars, encode_utf8_all}
+use borrow.Author.Tests.{ltb-true}
 use lib.Utf8.{scalars}
-use Rattle.vt_cells.specs.Glyph.{IsGlyphText, Joins, IsMark, columns_of, is_selector}
-use Rattle.vt_cells.specs.Glyph.{mark_limit, has_room, marked_text, glyph_columns}
+use Rattle.unicode_width.specs.Width.{char_width, alone, of_kind}
+use Rattle.unicode_width.specs.Kind.{kind}
+use Rattle.unicode_width.specs.declared.kind.Kind.{Kind}
+use Rattle.unicode_width.specs.declared.kind.Kind.TheVariants as kinds
+use Rattle.unicode_width.proofs.KindLemmas.{kind_stepped}
+use Rattle.unicode_width.proofs.Computing.{unicode_width}
+use Rattle.vt_cells.specs.Glyph.{columns_of, columns_or, IsGlyphText, Joins, IsMark, is_selector, mark_limit, has_room}
+use Rattle.vt_cells.specs.Glyph.{marked_text, glyph_columns}
+
+-- ==== The number of columns that characters take.
+
+pub char_width-ascii : (c : ℕ) → 0x20 ≤ c → c < 0x7F → char_width false c ≡ Some 1
+unfolding char_width
+char_width-ascii c low high = grind (arith, nat_tests)
+
+-- Printable ASCII takes one column.
+pub columns_of-ascii : (c : ℕ) → 0x20 ≤ c → c < 0x7F → columns_of c ≡ Some 1
+unfolding columns_of
+columns_of-ascii c low high = rw (char_width-ascii c low high) refl
+
+pub columns_of-given : (c n : ℕ) → char_width false c ≡ Some n → columns_of c ≡ Some (min n 2)
+unfolding columns_of
+columns_of-given c n e = rw e refl
+
+pub columns_of-low : (c : ℕ) → char_width false c ≡ None → c < 0x100 → columns_of c ≡ None
+unfolding columns_of
+columns_of-low c e low = rw e (grind (arith, nat_tests))
+
+pub columns_of-high : (c : ℕ) → char_width false c ≡ None → 0x100 ≤ c → columns_of c ≡ Some 1
+unfolding columns_of
+columns_of-high c e high = rw e (grind (arith, nat_tests))
+
+columns_or-le : (c w : ℕ) (given : Option ℕ) → columns_or c given ≡ Some w → w ≤ 2
+columns_or-le c w (Some n) e = let p : min n 2 ≡ w = cc in omega arith
+columns_or-le c w None e = grind (arith, nat_tests)
+
+-- A character takes at most two columns.
+pub columns_of-le : (c w : ℕ) → columns_of c ≡ Some w → w ≤ 2
+unfolding columns_of
+columns_of-le c w e = columns_or-le c w (char_width false c) e
+
+-- ==== Blocks in which every character takes two columns.
+
+-- The blocks: punctuation; Hiragana and Katakana without their combining characters; enclosed and squared characters
+-- with all ideographs up to the syllables of Yi; and the syllables of Hangul.
+abbrev pub blocks : List Range
+blocks = (0x3000, 0x3029) ∷ (0x3041, 0x3096) ∷ (0x309B, 0x30FF) ∷ (0x3250, 0xA48C) ∷ (0xAC00, 0xD7A3) ∷ []
+
+is_two : Kind → Bool
+is_two kinds.Wide = true
+is_two _ = false
+
+-- A character is outside the blocks or takes two columns, given whether it is in the blocks and how wide it is.
+is_fit : Bool → Kind → Bool
+is_fit inside found = not inside || is_two found
+
+fits : (c : ℕ) → c ≤ 0x10_FFFF → is_fit (in_ranges blocks c) (kind c) ≡ true
+unfolding tables kind_stepped is_fit is_two
+fits = Stepped-always (λ c. is_fit (in_ranges blocks c) (kind c))
+    (zip_stepped is_fit (in_ranges blocks) kind (of_ranges blocks refl) kind_stepped) refl
+
+two : (inside : Bool) (c : ℕ) (found : Kind) → is_fit inside found ≡ true → inside ≡ true
+    → (of_kind false c found).0 ≡ 2
+unfolding is_fit is_two
+two true c kinds.Wide fit is = refl
+two true c kinds.Emoji fit is = cc
+two true c kinds.Zero fit is = cc
+two true c kinds.Narrow fit is = cc
+two true c kinds.Ambiguous fit is = cc
+two true c kinds.Alef fit is = cc
+two true c kinds.KhmerLetter fit is = cc
+two true c kinds.TifinaghConsonant fit is = cc
+two true c kinds.LisuTone fit is = cc
+two true c kinds.RegionalIndicator fit is = cc
+two true c kinds.EmojiModifier fit is = cc
+two true c kinds.Single fit is = cc
+two false c found fit is = cc
+
+-- Every character in the blocks takes two columns.
+columns_of-block : (c : ℕ) → c ≤ 0x10_FFFF → 0xA0 ≤ c → in_ranges blocks c ≡ true → columns_of c ≡ Some 2
+unfolding columns_of char_width alone
+columns_of-block c last high inside =
+    let wide = two (in_ranges blocks c) c (kind c) (fits c last) inside in
+    grind (arith, nat_tests, wide)
+
+pub enclosed : (c : ℕ) → 0x3250 ≤ c → c ≤ 0xA48C → columns_of c ≡ Some 2
+unfolding in_ranges
+enclosed c low high = columns_of-block c (omega arith) (omega arith) (grind (arith, nat_tests))
+
+pub punctuation : (c : ℕ) → 0x3000 ≤ c → c ≤ 0x3029 → columns_of c ≡ Some 2
+unfolding in_ranges
+punctuation c low high = columns_of-block c (omega arith) (omega arith) (grind (arith, nat_tests))
+
+pub hiragana : (c : ℕ) → 0x3041 ≤ c → c ≤ 0x3096 → columns_of c ≡ Some 2
+unfolding in_ranges
+hiragana c low high = columns_of-block c (omega arith) (omega arith) (grind (arith, nat_tests))
+
+pub katakana : (c : ℕ) → 0x309B ≤ c → c ≤ 0x30FF → columns_of c ≡ Some 2
+unfolding in_ranges
+katakana c low high = columns_of-block c (omega arith) (omega arith) (grind (arith, nat_tests))
+
+pub hangul : (c : ℕ) → 0xAC00 ≤ c → c ≤ 0xD7A3 → columns_of c ≡ Some 2
+unfolding in_ranges
+hangul c low high = columns_of-block c (omega arith) (omega arith) (grind (arith, nat_tests))
+
+pub ruleset blocks_wide = (punctuation, hiragana, katakana, enclosed, hangul)
+
+-- ==== Texts of glyphs: the first character, and one more combining character.
 
 -- A character takes one to four bytes in UTF-8.
 pub encode_bounds : (c : ℕ) → (1 ≤ length (encode_utf8 c)) × (length (encode_utf8 c) ≤ 4)
@@ -163,3 +271,36 @@ pub IsGlyphText-chars : (text : List ℕ) (wide : Bool) (glyph : IsGlyphText tex
 IsGlyphText-chars text wide glyph =
     ap chars (IsGlyphText-spelled text wide glyph)
     ∙ chars-encodes (glyph.first ∷ glyph.marks) (rw (glyph.scalar, all_scalar glyph.marks glyph.are_marks) refl)
+
+-- ==== The bytes of a character in UTF-8, and a text to which these bytes are appended one by one.
+
+pub one_byte : (c : ℕ) → c < 0x80 → encode_utf8 c ≡ c ∷ []
+unfolding encode_utf8
+one_byte c high = grind (arith, nat_tests)
+
+pub two_bytes : (c : ℕ) → 0x80 ≤ c → c < 0x800 → encode_utf8 c ≡ (0xC0 + c / 64) ∷ (0x80 + c % 64) ∷ []
+unfolding encode_utf8
+two_bytes c low high = grind (arith, nat_tests)
+
+pub three_bytes : (c : ℕ) → 0x800 ≤ c → c < 0x1_0000 →
+    encode_utf8 c ≡ (0xE0 + c / 4096) ∷ (0x80 + c / 64 % 64) ∷ (0x80 + c % 64) ∷ []
+unfolding encode_utf8
+three_bytes c low high = grind (arith, nat_tests)
+
+pub four_bytes : (c : ℕ) → 0x1_0000 ≤ c →
+    encode_utf8 c ≡ (0xF0 + c / 262144) ∷ (0x80 + c / 4096 % 64) ∷ (0x80 + c / 64 % 64) ∷ (0x80 + c % 64) ∷ []
+unfolding encode_utf8
+four_bytes c low = grind (arith, nat_tests)
+
+pub add_two : (front t1 t2 : List ℕ) (a b : ℕ) → t1 ≡ front ++ a ∷ [] → t2 ≡ t1 ++ b ∷ [] → t2 ≡ front ++ (a ∷ b ∷ [])
+add_two front t1 t2 a b e1 e2 = e2 ∙ ap (λ t. t ++ b ∷ []) e1 ∙ append_assoc front (a ∷ []) (b ∷ [])
+
+pub add_three : (front t1 t2 t3 : List ℕ) (a b d : ℕ) → t1 ≡ front ++ a ∷ [] →
+    t2 ≡ t1 ++ b ∷ [] → t3 ≡ t2 ++ d ∷ [] → t3 ≡ front ++ (a ∷ b ∷ d ∷ [])
+add_three front t1 t2 t3 a b d e1 e2 e3 =
+    e3 ∙ ap (λ t. t ++ d ∷ []) (add_two front t1 t2 a b e1 e2) ∙ append_assoc front (a ∷ b ∷ []) (d ∷ [])
+
+pub add_four : (front t1 t2 t3 t4 : List ℕ) (a b d f : ℕ) → t1 ≡ front ++ a ∷ [] →
+    t2 ≡ t1 ++ b ∷ [] → t3 ≡ t2 ++ d ∷ [] → t4 ≡ t3 ++ f ∷ [] → t4 ≡ front ++ (a ∷ b ∷ d ∷ f ∷ [])
+add_four front t1 t2 t3 t4 a b d f e1 e2 e3 e4 =
+    e4 ∙ ap (λ t. t ++ f ∷ []) (add_three front t1 t2 t3 a b d e1 e2 e3) ∙ append_assoc front (a ∷ b ∷ d ∷ []) (f ∷ [])

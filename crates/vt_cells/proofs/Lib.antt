@@ -1,18 +1,9 @@
-pub mod Buffers
-pub mod Changes
-pub mod ChangeTexts
-pub mod Texts
-pub mod Cells
-pub mod Encoding
-pub mod Four
-pub mod Fronts
-pub mod Glyphs
-pub mod Ideographs
-pub mod KeptCells
+-- Attributes
+pub mod Attributes
 pub mod Packing
-pub mod Same
-pub mod SameCells
-pub mod Shapes
+-- Cells
+pub mod Glyphs
+pub mod Cells
+-- Output
+pub mod Texts
 pub mod Sinks
-pub mod Widths
-pub mod Words

@@ -1,14 +1,13 @@
+-- Attributes, cells and operations
 pub mod Attrs
-pub mod AttrsInternals
-pub mod BufferInternals
+pub mod Glyph
 pub mod Cell
 pub mod CellEq
-pub mod CellInternals
-pub mod ChangeInternals
-pub mod ErrorKinds
-pub mod ErrorText
-pub mod Glyph
-pub mod InputModes
 pub mod Op
+pub mod InputModes
+-- Errors and sinks
+pub mod Errors
 pub mod Refusals
 pub mod Sinks
+-- For models, private contracts and proofs only
+pub mod Internals

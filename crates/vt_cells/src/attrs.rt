@@ -2,9 +2,8 @@
 
 ghost use Rattle.std.specs.Prelude.{◌≡◌, ◌<◌, if◌then◌else◌};
 ghost use Rattle.vt_cells.specs.Attrs.{default_attrs, is_bold, is_dim, same_attrs, same_color, same_intensity};
-ghost use Rattle.vt_cells.specs.AttrsInternals.{IsAttrsWord, attrs_of_word, attrs_word, same_style, same_switches};
-ghost use Rattle.vt_cells.specs.AttrsInternals.{style_of_attrs};
-ghost use Rattle.vt_cells.specs.AttrsInternals.{intensity_bits, style_bits, style_of};
+ghost use Rattle.vt_cells.specs.Internals.{IsAttrsWord, attrs_of_word, attrs_word, same_style, same_switches};
+ghost use Rattle.vt_cells.specs.Internals.{style_of_attrs, intensity_bits, style_bits, style_of};
 
 use crate::color::Color;
 use crate::packed_color::PackedColor;
@@ -56,8 +55,7 @@ struct Parts {
 
 impl Model for Attrs {
     ghost use Rattle.vt_cells.specs.Attrs as specs;
-    ghost use Rattle.vt_cells.specs.AttrsInternals.{IsAttrsWord, attrs_of_word, attrs_word};
-    ghost use Rattle.vt_cells.specs.AttrsInternals.{word_back};
+    ghost use Rattle.vt_cells.specs.Internals.{IsAttrsWord, attrs_of_word, attrs_word, word_back};
 
     ghost Value = { specs.Attrs };
 
@@ -191,7 +189,7 @@ impl Attrs {
 
     /// Returns whether all attributes except the colors equal those of `other`.
     #[inline]
-    #[tactic(auto, using(crate::proofs::Packing::bits_same))]
+    #[tactic(auto, using(crate::proofs::Packing::style_bits_same))]
     pub fn has_style_of(&self, other: &Attrs) -> bool
         ensures { result ≡ same_style (style_of_attrs self.now) (style_of_attrs other.now) }
     {

@@ -1,7 +1,7 @@
 //! A buffer that collects short strings before they are written to a sink.
 
 ghost use Rattle.std.specs.Prelude.{◌≡◌, ◌+◌, ◌++◌, ◌∷◌, ◌<◌, ◌≤◌, [], length, IsErr, OnErr, OnOk};
-ghost use Rattle.vt_cells.specs.BufferInternals.{buffered_text};
+ghost use Rattle.vt_cells.specs.Internals.{buffered_text};
 ghost use Rattle.vt_cells.specs.Sinks.{IsStopped};
 
 use crate::sink::Sink;
@@ -22,7 +22,7 @@ pub struct Buffer {
 
 impl Model for Buffer {
     ghost use Rattle.std.specs.Prelude.{ℕ, List, take};
-    ghost use Rattle.vt_cells.specs.BufferInternals.{IsBuffer};
+    ghost use Rattle.vt_cells.specs.Internals.{IsBuffer};
 
     ghost Value = { List ℕ };
 
@@ -50,7 +50,7 @@ impl Buffer {
     ///
     /// Returns the sink's error. Part of the output may have been written by then.
     #[inline(always)]
-    #[tactic(auto, unfolding(crate::specs::BufferInternals::buffered_text))]
+    #[tactic(auto, unfolding(crate::specs::Internals::buffered_text))]
     pub fn add<S: Sink>(&mut self, sink: &mut S, text: &str) -> Result<(), S::Error>
         ensures text { OnOk result (buffered_text (S.text sink.new) self.new
             ≡ buffered_text (S.text sink.old) self.old ++ text.now) }
@@ -79,7 +79,7 @@ impl Buffer {
     ///
     /// Returns the sink's error. Part of the output may have been written by then.
     #[inline(never)]
-    #[tactic(auto, unfolding(crate::specs::BufferInternals::buffered_text))]
+    #[tactic(auto, unfolding(crate::specs::Internals::buffered_text))]
     pub fn flush<S: Sink>(&mut self, sink: &mut S) -> Result<(), S::Error>
         ensures text { OnOk result (S.text sink.new ≡ buffered_text (S.text sink.old) self.old) }
         ensures empty { OnOk result (self.new ≡ []) }
@@ -142,7 +142,7 @@ impl Buffer {
     ///
     /// Returns the sink's error. Part of the output may have been written by then.
     #[inline(always)]
-    #[tactic(auto, using(crate::proofs::Buffers::all_buffered, crate::proofs::Buffers::longer_flushed))]
+    #[tactic(auto, using(crate::proofs::Sinks::all_buffered, crate::proofs::Sinks::longer_flushed))]
     pub fn make_room<S: Sink>(&mut self, sink: &mut S, len: usize) -> Result<(), S::Error>
         requires { len ≤ 256 }
         ensures text { OnOk result (buffered_text (S.text sink.new) self.new ≡ buffered_text (S.text sink.old) self.old) }
@@ -160,7 +160,7 @@ impl Buffer {
 
     /// Appends an ASCII character, which must fit in the buffer.
     #[inline(always)]
-    #[tactic(auto, using(crate::proofs::Buffers::next_byte))]
+    #[tactic(auto, using(crate::proofs::Sinks::next_byte))]
     pub fn push_byte(&mut self, byte: u8)
         requires room { length self.old + 1 ≤ 256 }
         requires ascii { byte < 128 }
@@ -182,7 +182,7 @@ impl Buffer {
 
 /// Copies the single byte in `from` into `to`, which must also have length 1.
 #[inline(always)]
-#[tactic(auto, using(crate::proofs::Buffers::one_set))]
+#[tactic(auto, using(crate::proofs::Sinks::one_set))]
 fn copy_one(to: &mut [u8], from: &[u8])
     requires room { length to.old ≡ length from.now }
     requires one { length from.now ≡ 1 }
@@ -196,7 +196,7 @@ fn copy_one(to: &mut [u8], from: &[u8])
 /// Slices of one to three bytes, the length of most glyphs, are copied inline instead of by a call
 /// to `memcpy`.
 #[inline(always)]
-#[tactic(auto, using(crate::proofs::Buffers::one_set, crate::proofs::Buffers::two_set, crate::proofs::Buffers::three_set))]
+#[tactic(auto, using(crate::proofs::Sinks::one_set, crate::proofs::Sinks::two_set, crate::proofs::Sinks::three_set))]
 fn copy(to: &mut [u8], from: &[u8])
     requires { length to.old ≡ length from.now }
     ensures { to.new ≡ from.now }

@@ -5,7 +5,7 @@ ghost use Rattle.std.specs.Int.{to_le_bytes, w64};
 ghost use Rattle.vt_cells.specs.Attrs.{is_bold, is_dim, same_attrs};
 ghost use Rattle.vt_cells.specs.Cell.{is_wide, is_blank, is_glyph, is_right_half};
 ghost use Rattle.vt_cells.specs.Cell.{text_of, attrs_of, same_cell, IsCell};
-ghost use Rattle.vt_cells.specs.CellInternals.{first_eight_bytes, head_of_cell, same_head};
+ghost use Rattle.vt_cells.specs.Internals.{first_eight_bytes, head_of_cell, same_head};
 ghost use Rattle.vt_cells.specs.Glyph.{is_wide_text};
 
 mod editing;
@@ -41,8 +41,8 @@ pub struct Cell {
 
 impl Model for Cell {
     ghost use Rattle.vt_cells.specs.Cell.{CellValue, text_of};
-    ghost use Rattle.vt_cells.specs.CellInternals.{IsStored, cell_of_parts, head_of_cell, padded_text};
-    ghost use Rattle.vt_cells.specs.CellInternals.{stored_contents, stored_head};
+    ghost use Rattle.vt_cells.specs.Internals.{IsStored, cell_of_parts, head_of_cell, padded_text, stored_contents};
+    ghost use Rattle.vt_cells.specs.Internals.{stored_head};
 
     ghost Value = { CellValue };
 

@@ -2,7 +2,7 @@
 
 ghost use Rattle.std.specs.Prelude.{◌≡◌, ◌<◌, false, IsTrue};
 ghost use Rattle.vt_cells.specs.Attrs.{default_attrs};
-ghost use Rattle.vt_cells.specs.CellInternals.{half_shape, same_head};
+ghost use Rattle.vt_cells.specs.Internals.{half_shape, same_head};
 
 use crate::attrs::Attrs;
 use crate::shape::Shape;
@@ -19,7 +19,7 @@ pub struct Head {
 }
 
 impl Model for Head {
-    ghost use Rattle.vt_cells.specs.CellInternals.{HeadValue, IsHead, head_back, head_of, head_word};
+    ghost use Rattle.vt_cells.specs.Internals.{HeadValue, IsHead, head_back, head_of, head_word};
 
     ghost Value = { HeadValue };
 
@@ -84,7 +84,7 @@ impl Head {
 
     /// Returns whether the text is longer than seven bytes.
     #[inline]
-    #[tactic(auto, using(crate::proofs::Shapes::short_head, crate::proofs::Shapes::long_head))]
+    #[tactic(auto, using(crate::proofs::Packing::short_head, crate::proofs::Packing::long_head))]
     pub fn is_long(&self) -> bool
         ensures short { result ≡ false → self.now.shape.len < 8 }
         ensures long { IsTrue result → 7 < self.now.shape.len }
@@ -95,7 +95,7 @@ impl Head {
     /// Returns the length of the text with its low three bits cleared. The result is 0 if and only
     /// if the text has at most seven bytes.
     #[inline(always)]
-    #[tactic(auto, using(crate::proofs::Shapes::short_bits, crate::proofs::Shapes::no_long_bits))]
+    #[tactic(auto, using(crate::proofs::Packing::short_bits, crate::proofs::Packing::no_long_bits))]
     pub fn long_bits(&self) -> u64
         ensures short { result ≡ 0 → self.now.shape.len < 8 }
         ensures none { self.now.shape.len < 8 → result ≡ 0 }
@@ -109,7 +109,7 @@ impl Head {
     /// The mask contains the bits in which the two words differ, and the upper two bits of the text
     /// length of `self`, which are 0 for lengths below eight.
     #[inline(always)]
-    #[tactic(auto, using(crate::proofs::Words::heads_even, crate::proofs::Words::short_even))]
+    #[tactic(auto, using(crate::proofs::Cells::heads_even, crate::proofs::Cells::short_even))]
     pub fn odd_bits(&self, other: &Head) -> u64
         ensures same { result ≡ 0 → self.now ≡ other.now }
         ensures short { result ≡ 0 → self.now.shape.len < 8 }
@@ -119,7 +119,7 @@ impl Head {
 
     /// Returns whether the two heads are equal.
     #[inline]
-    #[tactic(auto, using(crate::proofs::Shapes::heads_same))]
+    #[tactic(auto, using(crate::proofs::Packing::heads_same))]
     pub fn is_same(&self, other: &Head) -> bool
         ensures { result ≡ same_head self.now other.now }
     {

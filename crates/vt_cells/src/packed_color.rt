@@ -2,7 +2,7 @@
 
 ghost use Rattle.std.specs.Prelude.{◌≡◌};
 ghost use Rattle.vt_cells.specs.Attrs.{same_color};
-ghost use Rattle.vt_cells.specs.AttrsInternals.{IsColorBits, color_bits, color_of};
+ghost use Rattle.vt_cells.specs.Internals.{IsColorBits, color_bits, color_of};
 ghost use Rattle.vt_cells.specs.declared.color.Color.TheVariants as color;
 
 use crate::color::Color;
@@ -19,7 +19,7 @@ pub struct PackedColor {
 }
 
 impl Model for PackedColor {
-    ghost use Rattle.vt_cells.specs.AttrsInternals.{IsColorBits, color_bits, color_of};
+    ghost use Rattle.vt_cells.specs.Internals.{IsColorBits, color_bits, color_of};
     ghost use Rattle.vt_cells.specs.declared.color.Color.{Color};
 
     ghost Value = { Color };

@@ -1,7 +1,7 @@
 //! The kind, width and text length of a cell, in one byte.
 
 ghost use Rattle.std.specs.Prelude.{◌≡◌, ◌<◌, false, true};
-ghost use Rattle.vt_cells.specs.CellInternals.{blank_shape, same_shape, shape_bits, shape_of};
+ghost use Rattle.vt_cells.specs.Internals.{blank_shape, same_shape, shape_bits, shape_of};
 
 use std::marker::Model;
 
@@ -20,7 +20,7 @@ pub struct Shape {
 
 impl Model for Shape {
     ghost use Rattle.std.specs.Prelude.{◌≡◌};
-    ghost use Rattle.vt_cells.specs.CellInternals.{ShapeValue, shape_bits, shape_of};
+    ghost use Rattle.vt_cells.specs.Internals.{ShapeValue, shape_bits, shape_of};
 
     ghost Value = { ShapeValue };
 
@@ -37,7 +37,7 @@ impl Shape {
     /// Creates the shape of a glyph that has `len` bytes of text, at most 31, and is wide if `wide`
     /// is true. If `len` is 0 and `wide` is false, creates the shape of a blank.
     #[inline]
-    #[tactic(auto, using(crate::proofs::Shapes::text_back))]
+    #[tactic(auto, using(crate::proofs::Packing::text_back))]
     pub fn text(len: u8, wide: bool) -> Self
         requires { len < 32 }
         ensures { result ≡ record { len = len; wide = wide; right_half = false } }
@@ -57,7 +57,7 @@ impl Shape {
 
     /// Returns the shape packed into a byte, of which only the low seven bits are used.
     #[inline]
-    #[tactic(auto, using(crate::proofs::Shapes::shape_small))]
+    #[tactic(auto, using(crate::proofs::Packing::shape_small))]
     pub fn bits(&self) -> u8
         ensures value { result ≡ shape_bits self.now }
         ensures back { shape_of result ≡ self.now }
@@ -94,7 +94,7 @@ impl Shape {
 
     /// Returns whether the cell is a continuation cell.
     #[inline]
-    #[tactic(auto, using(crate::proofs::Shapes::high_bit))]
+    #[tactic(auto, using(crate::proofs::Packing::high_bit))]
     pub fn is_right_half(&self) -> bool
         ensures { result ≡ self.now.right_half }
     {
@@ -103,7 +103,7 @@ impl Shape {
 
     /// Returns whether the cell is a blank: no text, and not a continuation cell.
     #[inline]
-    #[tactic(auto, using(crate::proofs::Shapes::no_bits))]
+    #[tactic(auto, using(crate::proofs::Packing::no_bits))]
     pub fn is_blank(&self) -> bool
         ensures { result ≡ same_shape self.now blank_shape }
     {

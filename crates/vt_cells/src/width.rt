@@ -35,7 +35,7 @@ pub fn columns(c: char) -> Option<u8>
 /// ranges of CJK punctuation, Hiragana, Katakana and Hangul. The first block is tested first
 /// because its characters are the most frequent. Wide characters also exist outside these blocks.
 #[inline]
-#[tactic(auto, using(crate::proofs::Ideographs::blocks_wide))]
+#[tactic(auto, using(crate::proofs::Glyphs::blocks_wide))]
 fn is_ideograph(code: u32) -> bool
     ensures { IsTrue result → columns_of code ≡ Some 2 }
 {

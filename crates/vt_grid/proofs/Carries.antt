@@ -1,28 +1,166 @@
--- A glyph that U+FE0F makes wide while a wrap is pending: it is removed and put on the next row, or put back if memory
--- for a row that scrolls off cannot be allocated.
-use Rattle.std.proofs.Common.{◌≡◌, ℕ, ◌+◌, ◌-◌, ◌<◌, ◌==◌, ◌&&◌, nat_lt, not, Bool, true, false}
-use Rattle.std.proofs.Common.{List, length, set, refl, inl, inr, sym, ap, ◌∙◌, arith}
-use Rattle.std.specs.Prelude.{if◌then◌else◌}
-use Rattle.std.proofs.lemmas.Bool.{cases_lt, cases_eq}
+-- A printed character leaves a valid page, also if U+FE0F makes the glyph before the cursor wide.
+use Rattle.std.proofs.Common.{◌≡◌, ℕ, ◌&&◌, not, Bool, true, false, subst, ◌+◌, ◌-◌, ◌<◌, ◌≤◌, List, length, take}
+use Rattle.std.proofs.Common.{replicate, refl, sym, ap, ◌==◌, ◌∙◌, arith, nat_lt, set, inl, inr, ◌≢◌, zero, suc}
+use Rattle.std.specs.Prelude.{if◌then◌else◌, Option, Some, None, IfSome}
+use Rattle.std.proofs.lemmas.List.{length-set, length-append, length-take, length-replicate, set-set, set-get_or}
+use Rattle.std.proofs.lemmas.Bool.{cases_lt, cases_eq, ltb-true}
 use Rattle.std.proofs.lemmas.Bool.Decides.{nat_tests}
 use Rattle.std.proofs.lemmas.Grind.{get_or-set_at}
-use Rattle.std.proofs.lemmas.List.{set-set, set-get_or, length-set}
-use Rattle.vt_cells.specs.Cell.{CellValue, blank, default_blank, is_wide, is_right_half, text_of, cell_with_mark}
-use Rattle.vt_cells.specs.Glyph.{is_selector, is_wide_text}
+use Rattle.std.specs.Char.{encode_utf8, IsScalar}
 use Rattle.vt_cells.specs.Attrs.{Attrs}
-use Rattle.vt_rows.specs.Cells.{at, IsPaired, blanks, cells_after_erase, marked_at, column_of}
-use Rattle.vt_rows.specs.Row.{RowValue, with_cells}
-use Rattle.vt_rows.proofs.Columns.{put_columns, same_columns}
-use Rattle.vt_rows.proofs.Pairs.{is_wide-marked}
+use Rattle.vt_cells.specs.Cell.{CellValue, blank, default_blank, is_wide, is_right_half, text_of, cell_with_mark}
+use Rattle.vt_cells.specs.Cell.{is_blank, cell_made_wide, IsCell}
+use Rattle.vt_cells.specs.Glyph.{IsGlyphText, IsMark, glyph_columns, is_selector, is_wide_text, columns_of}
+use Rattle.vt_cells.specs.declared.pos.Pos.{Pos}
+use Rattle.vt_cells.proofs.Glyphs.{IsGlyphText-first, columns_of-le}
+use Rattle.vt_rows.specs.Cells.{cells_after_erase, ends_blank, put_narrow, put_wide, marked_at, widened_at, narrowed_at}
+use Rattle.vt_rows.specs.Cells.{at, IsPaired, blanks, column_of}
+use Rattle.vt_rows.specs.Row.{IsRow, blank_row, with_cells, RowValue}
 use Rattle.vt_rows.proofs.Rows.{IsRow-erased, length-erased}
+use Rattle.vt_rows.proofs.Edits.{put_columns, same_columns, is_wide-marked}
 use Rattle.vt_rows.proofs.Steps.{at-set}
-use Rattle.vt_grid.specs.Page.{Page, IsPage, cursor_row, with_row}
-use Rattle.vt_grid.specs.Printing.{carries, lifted_page, wrapped_page, glyph_put, mark_column}
-use Rattle.vt_grid.specs.Printing.{takes_mark, mark_put, page_after_wrap, mark_printed}
-use Rattle.vt_grid.specs.Internals.{IsSized, IsMarkPlace}
-use Rattle.vt_grid.proofs.Pages.{page_cursor_cells, IsRow-cursor_row}
-use Rattle.vt_grid.proofs.Marks.{cursor_row_put, mark_place}
-use Rattle.vt_grid.proofs.Sized.{sized}
+use Rattle.vt_grid.specs.Internals.{IsSized, IsSelected, page_of, IsMarkPlace}
+use Rattle.vt_grid.specs.Page.{Page, IsPage, cursor_row, up_source, scrolled_up, with_row}
+use Rattle.vt_grid.specs.Erasing.{erased_columns, blanked_below}
+use Rattle.vt_grid.specs.Moves.{at_bottom, line_feed}
+use Rattle.vt_grid.specs.Printing.{with_cursor_cells, glyph_put, mark_put, made_narrow, flagged_left, left_row}
+use Rattle.vt_grid.specs.Printing.{goes_down, carries, lifted_page, wrapped_page, mark_column, takes_mark}
+use Rattle.vt_grid.specs.Printing.{page_after_wrap, mark_printed, page_after_print, printed_by, room_made}
+use Rattle.vt_grid.specs.Printing.{width_followed}
+use Rattle.vt_grid.specs.PageRows.{PageRowsValue, with_page_row_flag}
+use Rattle.vt_grid.proofs.Printing.{page_glyph_put, page_left, width_flagged_left, height_line_feed}
+use Rattle.vt_grid.proofs.Printing.{height_flagged_left, page_mark_put, page_widened, page_made_narrow, cursor_row_put}
+use Rattle.vt_grid.proofs.Printing.{mark_place, glyph_text, marked_selected, page_width_followed, page_wrapped}
+use Rattle.vt_grid.proofs.Printing.{column_wrapped_page, width_wrapped_page, page_drawn}
+use Rattle.vt_grid.proofs.Pages.{page_at, page_cursor_cells, page_scrolled_up, page_blanked_below, length-moved_rows}
+use Rattle.vt_grid.proofs.Pages.{IsRow-cursor_row, page_if}
+
+-- ==== Changes of the rows of a grid keep its size.
+
+pub sized : (rows cols : ℕ) (page new : Page) → IsSized rows cols page →
+    length new.rows ≡ length page.rows → new.width ≡ page.width → IsPage new → IsSized rows cols new
+sized rows cols page new s h w p = record { sound = p; height = s.height ∙ sym h; width = s.width ∙ sym w }
+
+pub sized_scrolled_up : (rows cols n : ℕ) (page : Page) →
+    IsSized rows cols page → IsSized rows cols (scrolled_up n page)
+sized_scrolled_up rows cols n page s =
+    sized rows cols page (scrolled_up n page) s
+    (length-moved_rows page.width (up_source (length page.rows) page.top page.bottom n) page.rows)
+    refl (page_scrolled_up n page s.sound)
+
+pub sized_cursor_cells : (rows cols : ℕ) (cells : List CellValue) (page : Page) →
+    IsRow page.width (with_cells (cursor_row page) cells) →
+    IsSized rows cols page → IsSized rows cols (with_cursor_cells cells page)
+sized_cursor_cells rows cols cells page h s =
+    sized rows cols page (with_cursor_cells cells page) s
+    (length-set page.rows page.row (with_cells (cursor_row page) cells)) refl (page_cursor_cells cells page s.sound h)
+
+pub sized_erased_columns : (rows cols c n : ℕ) (attrs : Attrs) (page : Page) →
+    c + n ≤ page.width → IsSized rows cols page → IsSized rows cols (erased_columns c n attrs page)
+sized_erased_columns rows cols c n attrs page h s =
+    sized_cursor_cells rows cols (cells_after_erase c n attrs (cursor_row page).cells) page
+    (IsRow-erased page.width (cursor_row page) c n attrs h (IsRow-cursor_row page s.sound)) s
+
+pub sized_blanked_below : (rows cols : ℕ) (attrs : Attrs) (page : Page) →
+    IsSized rows cols page → IsSized rows cols (blanked_below attrs page)
+sized_blanked_below rows cols attrs page s =
+    let p = s.sound in
+    let h = p.cursor_row in
+    let blank_line = blank_row attrs page.width in
+    let below = replicate (length page.rows - (page.row + 1)) blank_line in
+    sized rows cols page (blanked_below attrs page) s
+    (omega (
+      arith,
+      length-append (take (page.row + 1) page.rows) below,
+      length-take (page.row + 1) page.rows,
+      length-replicate (length page.rows - (page.row + 1)) blank_line,
+    ))
+    refl
+    (page_blanked_below attrs page p)
+
+pub sized_glyph_put : (rows cols : ℕ) (text : List ℕ) (wide : Bool) (attrs : Attrs) (page : Page) →
+    IsGlyphText text wide → page.column + glyph_columns wide ≤ page.width → IsSized rows cols page →
+    IsSized rows cols (glyph_put text wide attrs page)
+sized_glyph_put rows cols text false attrs page t h s =
+    sized rows cols page (glyph_put text false attrs page) s
+    (length-set page.rows page.row
+    (with_cells (cursor_row page) (put_narrow page.column text attrs (cursor_row page).cells)))
+    refl
+    (page_glyph_put text false attrs page t h s.sound)
+sized_glyph_put rows cols text true attrs page t h s =
+    sized rows cols page (glyph_put text true attrs page) s
+    (length-set page.rows page.row
+    (with_cells (cursor_row page) (put_wide page.column text attrs (cursor_row page).cells)))
+    refl
+    (page_glyph_put text true attrs page t h s.sound)
+
+-- ---- A wrap
+
+-- Setting a row's flag and moving the cursor of a grid to the first column does the same to the page that the grid
+-- stands for.
+pub flagged_page : (left : Option ℕ) (is_wrapped : Bool) (page_rows : PageRowsValue)
+    (pos saved : Pos) (top bottom : ℕ) (origin saved_origin : Bool) →
+    page_of (with_page_row_flag left is_wrapped page_rows) (record { row = pos.row; col = 0 }) saved top bottom origin saved_origin
+    ≡ record (flagged_left left is_wrapped (page_of page_rows pos saved top bottom origin saved_origin)) { column = 0 }
+flagged_page (Some r) is_wrapped page_rows pos saved top bottom origin saved_origin = refl
+flagged_page None is_wrapped page_rows pos saved top bottom origin saved_origin = refl
+
+pub sized_left : (rows cols : ℕ) (left : Option ℕ) (is_wrapped : Bool) (page : Page) → IsSized rows cols page →
+    IsPage (flagged_left left is_wrapped page) → IsSized rows cols (record (flagged_left left is_wrapped page) { column = 0 })
+sized_left rows cols left is_wrapped page s p =
+    let q = flagged_left left is_wrapped page in
+    sized rows cols page (record q { column = 0 }) s (height_flagged_left left is_wrapped page)
+    (width_flagged_left left is_wrapped page) (page_at q.row 0 q p.cursor_row (omega arith) p)
+
+pub wrap_parts : (page now fed : Page) (left : Option ℕ) (is_wrapped : Bool) → page ≡ now → left ≡ left_row page →
+    is_wrapped ≡ (goes_down now && not (ends_blank (cursor_row now).cells)) → fed ≡ line_feed now →
+    IsPage page → IsPage (flagged_left left is_wrapped fed)
+wrap_parts page now fed left is_wrapped e l g f p =
+    rw (l, g, f) (subst (λ (q : Page). IsPage
+    (flagged_left (left_row page) (goes_down q && not (ends_blank (cursor_row q).cells)) (line_feed q)))
+    e (page_left page p))
+
+left_in : (b t : Bool) (row n : ℕ) → row < n →
+    IfSome (if b then (if t then None else Some (row - 1)) else Some row) (λ r. r < n)
+left_in true true row n h = tt
+left_in true false row n h = omega arith
+left_in false t row n h = h
+
+pub left_inside : (page now fed : Page) (left : Option ℕ) → page ≡ now → left ≡ left_row page →
+    fed ≡ line_feed now → IsPage page → IfSome left (λ r. r < length fed.rows)
+left_inside page now fed left e l f p =
+    let h : length page.rows ≡ length fed.rows =
+    sym (ap (λ (q : Page). length q.rows) f ∙ (height_line_feed now ∙ sym (ap (λ (q : Page). length q.rows) e))) in
+    rw l (left_in (at_bottom page) (page.row == page.top) page.row (length fed.rows) (rw (← h) p.cursor_row))
+
+-- ---- Combining characters
+
+pub sized_mark_put : (rows cols k mark : ℕ) (page : Page) → IsMark mark →
+    k < length (cursor_row page).cells → IsSized rows cols page → IsSized rows cols (mark_put k mark page)
+sized_mark_put rows cols k mark page m h s =
+    sized rows cols page (mark_put k mark page) s
+    (length-set page.rows page.row (with_cells (cursor_row page) (marked_at k mark (cursor_row page).cells)))
+    refl (page_mark_put k mark page m h s.sound)
+
+pub sized_made_narrow : (rows cols k : ℕ) (attrs : Attrs) (page : Page) →
+    IsSelected page k → IsSized rows cols page → IsSized rows cols (made_narrow k attrs page)
+sized_made_narrow rows cols k attrs page h s =
+    sized rows cols page (made_narrow k attrs page) s
+    (length-set page.rows page.row (with_cells (cursor_row page) (narrowed_at k attrs (cursor_row page).cells)))
+    refl (page_made_narrow k attrs page h s.sound)
+
+pub sized_widened : (rows cols k : ℕ) (attrs : Attrs) (page : Page) → IsSelected page k →
+    k + 1 ≡ page.column → page.column < page.width → IsSized rows cols page →
+    IsSized rows cols
+    (record (with_cursor_cells (widened_at k attrs (cursor_row page).cells) page) { column = page.column + 1 })
+sized_widened rows cols k attrs page h before room s =
+    sized rows cols page
+    (record (with_cursor_cells (widened_at k attrs (cursor_row page).cells) page) { column = page.column + 1 }) s
+    (length-set page.rows page.row (with_cells (cursor_row page) (widened_at k attrs (cursor_row page).cells)))
+    refl (page_widened k attrs page h before room s.sound)
+
+-- ==== A glyph that U+FE0F makes wide while a wrap is pending: it is removed and put on the next row, or put back if
+-- memory for a row that scrolls off cannot be allocated.
 
 -- ---- The properties of a glyph that is carried
 
@@ -220,3 +358,60 @@ stays_before mark page p inside s t f n w =
     (nat_lt 1 page.width) (page.column == page.width) s t narrow wide f in
     let h = p.cursor_column in
     grind (arith, nat_tests)
+
+-- ==== A page stays valid when a character is printed.
+
+page_carried : (mark : ℕ) (attrs : Attrs) (page : Page) → IsMark mark →
+    IsCarried mark page → IsPage page → IsPage (page_after_wrap mark attrs page)
+unfolding page_after_wrap
+page_carried mark attrs page m c p =
+    let k = mark_column page in
+    let x = cell_with_mark mark (at (cursor_row page).cells k) in
+    let place = mark_place page p (omega (arith, c.columns, c.pending)) in
+    let chosen = marked_selected k mark page m c.selector c.takes place p in
+    let here = cell_marked k mark page place.inside p in
+    let text : IsGlyphText (text_of x) true =
+    glyph_text true x (sym (ap is_blank here) ∙ chosen.drawn) (sym (ap is_right_half here) ∙ chosen.place.shown)
+    (subst (λ (cell : CellValue). IsCell (cell_made_wide true cell)) here (chosen.either true)) in
+    let left = lifted_page k attrs page in
+    page_glyph_put (text_of x) true attrs (wrapped_page left) text
+    (omega (arith, column_wrapped_page left, width_wrapped_page left, c.columns))
+    (page_wrapped left (page_lifted k attrs page place.inside p))
+
+pub page_mark_printed : (mark : ℕ) (attrs : Attrs) (page : Page) → IsMark mark →
+    0 < page.column → IsPage page → IsPage (mark_printed mark attrs page)
+unfolding mark_printed
+page_mark_printed mark attrs page m pos p =
+    let k = mark_column page in
+    let place = mark_place page p pos in
+    let put = page_mark_put k mark page m place.inside p in
+    let stays = if is_selector mark then width_followed k attrs (mark_put k mark page) else mark_put k mark page in
+    page_if (carries mark page) (page_after_wrap mark attrs page)
+    (if takes_mark (at (cursor_row page).cells k) then stays else page)
+    (λ y. page_carried mark attrs page m (carried_of mark page y) p)
+    (λ n. page_if (takes_mark (at (cursor_row page).cells k)) stays page
+    (λ t. page_if (is_selector mark) (width_followed k attrs (mark_put k mark page)) (mark_put k mark page)
+    (λ s. page_width_followed k attrs (mark_put k mark page)
+    (marked_selected k mark page m s t place p) (stays_before mark page p place.inside s t n) put)
+    (λ _. put))
+    (λ _. p))
+
+pub page_printed : (c : ℕ) (attrs : Attrs) (page : Page) → IsScalar c →
+    c ≢ 0xFFFD → IsPage page → IsPage (page_after_print c attrs page)
+page_printed c attrs page scalar reported p = by_columns (columns_of c) refl where
+  by_columns : (w : Option ℕ) → columns_of c ≡ w → IsPage (printed_by w c attrs page)
+  by_columns None e = p
+  by_columns (Some zero) e =
+      page_if (page.column == 0) page (mark_printed c attrs page) (λ _. p)
+      (λ f. page_mark_printed c attrs page (scalar, e) (grind (arith, nat_tests)) p)
+  by_columns (Some (suc zero)) e =
+      page_drawn (encode_utf8 c) false attrs page
+      (IsGlyphText-first c false scalar reported e) (omega (arith, p.has_columns)) p
+  by_columns (Some (suc (suc n))) e =
+      let le = columns_of-le c (suc (suc n)) e in
+      let two : n ≡ 0 = omega arith in
+      page_if (nat_lt 1 page.width) (glyph_put (encode_utf8 c) true attrs (room_made 2 page)) page
+      (λ t. page_drawn (encode_utf8 c) true attrs page
+      (IsGlyphText-first c true scalar reported (e ∙ ap (λ (m : ℕ). Some (suc (suc m))) two))
+      (omega (arith, ltb-true 1 page.width t)) p)
+      (λ _. p)

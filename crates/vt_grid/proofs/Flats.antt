@@ -17,7 +17,7 @@ use Rattle.vt_cells.specs.Cell.{CellValue, blank, default_blank}
 use Rattle.vt_cells.specs.Attrs.{Attrs, default_attrs}
 use Rattle.vt_rows.specs.Cells.{at, blanks, ends_blank}
 use Rattle.vt_grid.specs.PageRows.{PageRowsValue, blank_page_rows, page_row, with_page_row, with_row_cells}
-use Rattle.vt_rows.proofs.Columns.{at-blanks, blanks_is}
+use Rattle.vt_rows.proofs.Edits.{at-blanks, blanks_is}
 use Rattle.vt_rows.specs.Row.{RowValue, blank_row}
 use Rattle.vt_grid.specs.Page.{row_or}
 use Rattle.vt_grid.specs.declared.flat.Line.{Line}

@@ -12,8 +12,8 @@ use Rattle.vt_cells.specs.Attrs.{default_attrs}
 use Rattle.vt_cells.specs.Cell.{blank}
 use Rattle.vt_rows.specs.Row.{RowValue, blank_row, resized_row, trimmed_row}
 use Rattle.vt_grid.specs.Scrollback.{Scrollback, IsScrollback, last_of, rows_with_scrolled_off, kept_after, grown_row, narrow_rows}
-use Rattle.vt_grid.specs.Spare.{AreSpare, window_from, grown_from, in_view}
-use Rattle.vt_grid.proofs.Stacking.{length-stacked, length-last_of}
+use Rattle.vt_grid.specs.Internals.{AreSpare, window_from, grown_from, in_view}
+use Rattle.vt_grid.proofs.ScrollbackRows.{length-stacked, length-last_of}
 
 -- ---- Rows from k on
 

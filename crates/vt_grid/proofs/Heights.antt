@@ -13,7 +13,7 @@ use Rattle.vt_cells.specs.Cell.{CellValue, default_blank}
 use Rattle.vt_rows.specs.Cells.{at, blanks}
 use Rattle.vt_rows.specs.Internals.{rotation_source}
 use Rattle.vt_rows.specs.Row.{RowValue, IsRow, blank_row, resized_row}
-use Rattle.vt_rows.proofs.Columns.{at-blanks, blanks_is}
+use Rattle.vt_rows.proofs.Edits.{at-blanks, blanks_is}
 use Rattle.vt_rows.proofs.Moves.{resized_row-same}
 use Rattle.vt_rows.proofs.Rows.{IsRow-blank_row}
 use Rattle.vt_grid.specs.declared.flat.Columns.{Columns}

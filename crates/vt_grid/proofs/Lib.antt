@@ -1,31 +1,21 @@
-pub mod Windows
-pub mod Flats
-pub mod Packing
-pub mod Bounds
-pub mod Drawing
-pub mod Dispatch
-pub mod Carries
-pub mod Marks
-pub mod Printed
-pub mod PageExamples
-pub mod Outgoing
+-- Operations leave a valid page
 pub mod Pages
-pub mod Prints
-pub mod Regions
-pub mod ScrollExamples
-pub mod Scrolls
-pub mod Turns
 pub mod Shifting
-pub mod ShiftExamples
-pub mod Blanking
-pub mod Sized
+pub mod Printing
+pub mod Carries
 pub mod Texts
-pub mod WideTexts
-pub mod Stacking
+-- Where rows are stored
+pub mod Flats
+pub mod Bounds
+pub mod Scrolls
+pub mod Packing
+-- Resizes and scrollback
+pub mod ScrollbackRows
 pub mod Growing
-pub mod Scrolling
-pub mod Moving
 pub mod Resizing
 pub mod Heights
 pub mod Widths
-pub mod ResizeExamples
+-- Examples
+pub mod PageExamples
+pub mod ShiftExamples
+pub mod ScrollbackExamples

@@ -16,7 +16,7 @@ use Rattle.vt_cells.specs.Attrs.{default_attrs}
 use Rattle.vt_cells.specs.Cell.{default_blank}
 use Rattle.vt_rows.specs.Cells.{blanks, cells_after_resize}
 use Rattle.vt_rows.specs.Row.{RowValue, IsRow, blank_row, resized_row}
-use Rattle.vt_rows.proofs.Columns.{at-blanks}
+use Rattle.vt_rows.proofs.Edits.{at-blanks}
 use Rattle.vt_rows.proofs.Moves.{IsRow-resized_row, moved_is}
 use Rattle.vt_rows.proofs.Rows.{IsRow-blank_row}
 use Rattle.vt_cells.specs.declared.pos.Pos.{Pos}
@@ -28,7 +28,7 @@ use Rattle.vt_grid.specs.Scrollback.{Scrollback, IsScrollback, kept_after, grown
 use Rattle.vt_grid.specs.PageRows.{PageRowsValue}
 use Rattle.vt_grid.specs.Shifts.{unflagged}
 use Rattle.vt_grid.proofs.Pages.{IsRow-row_or}
-use Rattle.vt_grid.proofs.Scrolling.{IsScrollback-pushed}
+use Rattle.vt_grid.proofs.ScrollbackRows.{IsScrollback-pushed}
 
 -- ---- A blank row resized is a blank row
 

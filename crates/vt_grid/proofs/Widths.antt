@@ -13,7 +13,7 @@ use Rattle.vt_cells.specs.Cell.{CellValue, default_blank, is_wide, blank, attrs_
 use Rattle.vt_rows.specs.Cells.{IsPaired, at, blanks, cells_after_resize}
 use Rattle.vt_rows.specs.Internals.{end_blanked}
 use Rattle.vt_rows.specs.Row.{RowValue, IsRow, blank_row, resized_row}
-use Rattle.vt_rows.proofs.Columns.{at-blanks}
+use Rattle.vt_rows.proofs.Edits.{at-blanks}
 use Rattle.vt_rows.proofs.Moves.{length-resized, resized_row-other}
 use Rattle.vt_rows.proofs.ShiftSteps.{at-end_blanked, grown_is, resized_is}
 use Rattle.vt_grid.specs.declared.flat.Columns.{Columns}

@@ -1,7 +1,6 @@
--- The rows of a page as one list of cells, divided into slots that hold one row each, and a table with the slot, the
--- number of used columns and the wrapped flag of each row.
-use Rattle.std.specs.Prelude.{◌≡◌, ℕ, ◌+◌, ◌*◌, ◌<◌, ◌≤◌, false, List, length, map, slice_index_or}
-use Rattle.std.specs.Prelude.{if◌then◌else◌, min, nat_lt, take, vec_capacity}
+-- Where the rows of a page are stored: one list of cells, divided into slots, and a table of rows.
+use Rattle.std.specs.Prelude.{◌≡◌, ℕ, ◌+◌, ◌*◌, ◌<◌, ◌≤◌, false, List, length, map, slice_index_or, if◌then◌else◌, min}
+use Rattle.std.specs.Prelude.{nat_lt, take, vec_capacity}
 use Rattle.std.specs.List.{slice_range, range_with_len}
 use Rattle.vt_cells.specs.Cell.{CellValue, default_blank}
 use Rattle.vt_rows.specs.Cells.{at}

@@ -1,19 +1,20 @@
+-- Pages
 pub mod Page
 pub mod Regions
 pub mod Moves
-pub mod Shifts
-pub mod Scrollback
-pub mod Spare
-pub mod Outgoing
-pub mod Sending
-pub mod Resize
 pub mod Erasing
-pub mod PageStep
+pub mod Shifts
 pub mod Printing
-pub mod Canvas
-pub mod Internals
-pub mod PageRows
 pub mod Texts
-pub mod WideTexts
+pub mod Outgoing
+pub mod PageStep
+pub mod Canvas
+-- Scrollback and resizes
+pub mod Scrollback
+pub mod Resize
+pub mod Sending
+-- For invariants and private functions only
+pub mod PageRows
 pub mod Lines
 pub mod Flat
+pub mod Internals

@@ -9,7 +9,7 @@ ghost use Rattle.vt_cells.specs.Refusals.{OnlyOutOfMemory};
 ghost use Rattle.vt_rows.specs.Row.{blank_row, trimmed_row};
 ghost use Rattle.vt_grid.specs.PageRows.{HasRows};
 ghost use Rattle.vt_grid.specs.Sending.{FailsUnchanged};
-ghost use Rattle.vt_grid.specs.Spare.{AreRows, OldestIsShorter};
+ghost use Rattle.vt_grid.specs.Internals.{AreRows, OldestIsShorter};
 
 use crate::page_rows::PageRows;
 use std::alloc::Global;
@@ -137,7 +137,7 @@ pub fn report_all<L: Leaving>(rows: &mut VecDeque<Row>, leaving: &mut L)
 
 /// Passes the first `count` rows of a page to `leaving`, each without the default blanks at its
 /// end. Does nothing if `leaving` wants no rows.
-#[tactic(auto, using(vt_rows::proofs::Folds::folds_unchanged))]
+#[tactic(auto, using(vt_rows::proofs::RowTexts::folds_unchanged))]
 pub fn report_trimmed<L: Leaving>(page: &PageRows, count: usize, leaving: &mut L)
     requires { HasRows count page.now }
     ensures { FoldsTo L.leaves leaving.old (map trimmed_row (take count page.now.rows)) leaving.new }

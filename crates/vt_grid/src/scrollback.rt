@@ -8,14 +8,13 @@ ghost use Rattle.std.specs.VecDeque.{deque_capacity, deque_len};
 ghost use Rattle.vt_cells.specs.Attrs.{default_attrs};
 ghost use Rattle.vt_cells.specs.Refusals.{OnlyOutOfMemory};
 ghost use Rattle.vt_rows.specs.Row.{RowValue, IsRow, blank_row};
-ghost use Rattle.vt_grid.specs.Internals.{given_back};
+ghost use Rattle.vt_grid.specs.Internals.{given_back, AreRows, AreSpare, grown_from, in_view, window_from};
 ghost use Rattle.vt_grid.specs.PageRows.{CanLetRowsGo, HasRows};
 ghost use Rattle.vt_grid.specs.Resize.{out_of_view, taken_back};
 ghost use Rattle.vt_grid.specs.Scrollback.{IsScrollback, Sends, TakesMemory, ViewTakesMemory};
 ghost use Rattle.vt_grid.specs.Scrollback.{before_last, scrollback_after_clear, grown_row, kept_after, last_of};
 ghost use Rattle.vt_grid.specs.Scrollback.{narrow_rows, no_scrollback, with_view, visible};
 ghost use Rattle.vt_grid.specs.Sending.{SendsOrFails};
-ghost use Rattle.vt_grid.specs.Spare.{AreRows, AreSpare, grown_from, in_view, window_from};
 
 mod appending;
 

@@ -16,11 +16,11 @@ use Rattle.vt_screen.specs.Run.{CallRelation}
 use Rattle.vt_screen.specs.Screen.{IsScreen, ScreenValue}
 use Rattle.vt_screen.specs.Shown.{IsPlain, IsReader, IsReaderOf, KeepsRest, Redraws, RedrawsFrom, display}
 use Rattle.vt_screen.specs.declared.diff_options.DiffOptions.{DiffOptions}
-use Rattle.vt_screen.proofs.NoCallbacks.{reported_events}
-use Rattle.vt_screen.proofs.Viewing.{same_shown}
+use Rattle.vt_screen.proofs.CallsNone.{reported_events}
+use Rattle.vt_screen.proofs.Shown.{same_shown}
 use Rattle.vt100.specs.Parser.{ParserValue, Ran, stage}
 use Rattle.vt100.specs.Pieces.{IsPlainParser}
-use Rattle.vt100.proofs.Pieces.{ran_read}
+use Rattle.vt100.proofs.Quiet.{ran_read}
 use Rattle.vt100.proofs.Running.{ran_joined}
 use Rattle.vt_mirror.specs.Calls.{Asks, GivesUpdate, IsFull, IsUpdate}
 use Rattle.vt_mirror.specs.Healing.{GoesAny, IsTakenFine, ReadsFine, SeesAny, ShowsSteady, TakesFine, WatchesAny}

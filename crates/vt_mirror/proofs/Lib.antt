@@ -1,14 +1,10 @@
+-- Viewers and their notes
 pub mod Bookkeeping
 pub mod Keeping
-pub mod Current
-pub mod Noted
-pub mod Alikes
 pub mod Sharing
-pub mod Updates
-pub mod Processing
+-- Viewers' displays
 pub mod Watching
 pub mod Healing
+-- Runs of the program
 pub mod Runs
 pub mod Updating
-pub mod Sending
-pub mod Following

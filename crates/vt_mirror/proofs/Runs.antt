@@ -1,19 +1,28 @@
--- The input that a run has read and the output that it has written, update by update.
-use Rattle.std.proofs.Common.{◌≡◌, ℕ, ◌+◌, ◌*◌, ◌/◌, ◌<◌, ◌≤◌, zero, suc, List, [], ◌∷◌, ◌++◌}
-use Rattle.std.proofs.Common.{length, map, take, refl, sym, ap, ap₂, ◌∙◌, append_assoc, arith}
+-- The input that a run has read, the output that it has written, and the terminal that reads the output.
+use Rattle.std.proofs.Common.{◌≡◌, ℕ, ◌+◌, ◌*◌, ◌/◌, ◌<◌, ◌≤◌, zero, suc, List, [], ◌∷◌, ◌++◌, length, map, take, refl}
+use Rattle.std.proofs.Common.{sym, ap, ap₂, ◌∙◌, append_assoc, arith, subst}
 use Rattle.std.proofs.lemmas.List.{append-nil, length-append, map-append, take-append-le, take_all}
 use Rattle.std.proofs.lemmas.Nat.{div-mul-add}
-use Rattle.std.specs.List.{AllByRecursion}
+use Rattle.std.specs.List.{AllByRecursion, FoldsTo}
 use Rattle.vt_cells.specs.Op.{bytes_of_all}
-use Rattle.vt_redraw.specs.Redraw.{difference, redraw}
 use Rattle.vt_scan.specs.Automaton.{start}
-use Rattle.vt_screen.specs.Chain.{chain_text, last_screen, texts_after}
+use Rattle.vt_grid.specs.Page.{SameSize}
+use Rattle.vt_redraw.specs.Redraw.{difference, redraw}
+use Rattle.vt_redraw.specs.Steady.{IsSteady}
+use Rattle.vt_screen.specs.Chain.{chain_text, last_screen, texts_after, CanShowOn}
 use Rattle.vt_screen.specs.MadeOf.{IsMadeOf, drawing_controls, drawing_finals}
-use Rattle.vt_screen.specs.Screen.{IsColored, ScreenValue}
+use Rattle.vt_screen.specs.Screen.{IsColored, ScreenValue, IsScreen}
 use Rattle.vt_screen.specs.Shown.{display, display_change, shown_text}
 use Rattle.vt_screen.specs.CallsOfRun.{screen_in}
 use Rattle.vt_screen.proofs.MadeOf.{difference_made, made_append, made_nothing, redraw_made}
-use Rattle.vt_mirror.specs.Runs.{IsUpdatedAfter, multiples, screens_on_way}
+use Rattle.vt_screen.proofs.Shown.{same_shown}
+use Rattle.vt100.specs.Parser.{ParserValue}
+use Rattle.vt100.specs.Pieces.{IsFine, IsPlainParser, Processes, Processing, ShowsLast, bytes_in}
+use Rattle.vt100.proofs.Quiet.{chain_pieces}
+use Rattle.vt_mirror.specs.Runs.{IsUpdatedAfter, multiples, screens_on_way, screens_to_end, text_to_end}
+use Rattle.vt_mirror.proofs.Bookkeeping.{size_through}
+
+-- ==== The input that a run has read and the output that it has written, update by update.
 
 -- ---- the screens of the updates
 
@@ -127,3 +136,34 @@ pub chain_made : (first : ScreenValue) (nexts : List ScreenValue) →
 chain_made first nexts all =
     made_append drawing_finals drawing_controls (shown_text first) (texts_after first nexts)
     (redraw_made first all.0.sound all.0.colored) (changes_made first first nexts all.0.colored all.1)
+
+-- ==== A terminal that reads the output of a run displays its last screen.
+
+can_show : (first reader : ScreenValue) → SameSize first.page reader.page → (screens : List ScreenValue) →
+    AllByRecursion (IsUpdatedAfter first) screens → AllByRecursion (λ screen. IsSteady (display screen)) screens →
+    AllByRecursion (CanShowOn reader) screens
+can_show first reader size [] told steady = tt
+can_show first reader size (screen ∷ screens) told steady = (
+  record {
+    sound = told.0.sound;
+    colored = told.0.colored;
+    steady = steady.0;
+    size = same_shown screen reader (size_through screen.page first.page reader.page told.0.size size);
+  },
+  can_show first reader size screens told.1 steady.1,
+)
+
+pub follows : {S : Type 0} (first : ScreenValue) (every : ℕ) (input : List ℕ)
+    (p q : ParserValue S) (calls : List Processing)
+    → IsScreen p.screen → IsPlainParser p → SameSize first.page p.screen.page
+    → AllByRecursion (IsUpdatedAfter first) (first ∷ screens_to_end first every input)
+    → AllByRecursion (λ screen. IsSteady (display screen)) (first ∷ screens_to_end first every input)
+    → bytes_in calls ≡ text_to_end first every input → FoldsTo Processes p calls q
+    → AllByRecursion IsFine calls × ShowsLast p (screen_in start first input) q
+follows first every input p q calls is plain size told steady bytes folds =
+    let can = can_show first p.screen size (first ∷ screens_to_end first every input) told steady in
+    let all = chain_pieces first (screens_to_end first every input) p q calls is plain can.0 can.1 bytes folds in (
+      all.0,
+      subst (λ (screen : ScreenValue). ShowsLast p screen q)
+          (last_of_more first (screens_on_way first every input) (screen_in start first input)) all.1,
+    )

@@ -21,7 +21,7 @@ use Rattle.vt_screen.specs.CallsOfRun.{screen_in}
 use Rattle.vt_screen.proofs.MadeOf.{made_append}
 use Rattle.vt100.specs.Parser.{ParserValue, Ran, does_nothing}
 use Rattle.vt100.proofs.Running.{ran_then}
-use Rattle.vt100.proofs.Sizes.{quiet_leaves}
+use Rattle.vt100.proofs.PlainParsers.{quiet_leaves}
 use Rattle.vt100.proofs.Streams.{ran_called}
 use Rattle.vt_mirror.specs.Calls.{GivesUpdate, IsUpdate, MirrorProcesses, default_options}
 use Rattle.vt_mirror.specs.Internals.{InStretch, IsBegun, IsWritten, ReadsAtMost, ReadsBytes, ReadsFewer, ReadsStretch}
@@ -35,7 +35,7 @@ use Rattle.vt_mirror.specs.declared.update.Update.TheVariants.{Diff, Full}
 use Rattle.vt_show.specs.Shown.{AppendsPart}
 use Rattle.vt_show.specs.declared.faults.Fault.{Fault}
 use Rattle.vt_show.specs.declared.faults.Fault.TheVariants.{Write}
-use Rattle.vt_mirror.proofs.Noted.{own_size, size_through}
+use Rattle.vt_mirror.proofs.Bookkeeping.{own_size, size_through}
 use Rattle.vt_mirror.proofs.Runs.{all_of_more, chain_made, fewer_on_way, last_of_more, more_on_way, next_length, none_on_way, text_of_more}
 
 -- ---- reading

@@ -15,10 +15,10 @@ use Rattle.vt_screen.specs.Reading.{terminal_after, terminal}
 use Rattle.vt_screen.specs.Screen.{IsScreen, ScreenValue}
 use Rattle.vt_screen.specs.Shown.{IsPlain, IsReader, IsReaderOf, KeepsRest, Redraws, display}
 use Rattle.vt_screen.specs.declared.diff_options.DiffOptions.{DiffOptions}
-use Rattle.vt_screen.proofs.Viewing.{same_shown}
+use Rattle.vt_screen.proofs.Shown.{same_shown}
 use Rattle.vt100.specs.Parser.{ParserValue}
 use Rattle.vt100.specs.Pieces.{HasRead, IsPlainParser}
-use Rattle.vt100.proofs.Pieces.{read_pieces}
+use Rattle.vt100.proofs.Quiet.{read_pieces}
 use Rattle.vt_mirror.specs.Calls.{Asks, GivesUpdate, IsDiffFor, IsFull, IsUpdate, JoinsMirror, Resizes}
 use Rattle.vt_mirror.specs.Mirror.{MirrorValue}
 use Rattle.vt_mirror.specs.Viewers.{Puts, ViewersValue, next_number, note_of}
@@ -28,7 +28,7 @@ use Rattle.vt_mirror.specs.Watching.{TakesUpdate, TakesSize, Watching, numbers_g
 use Rattle.vt_mirror.specs.declared.update.Update.{Update}
 use Rattle.vt_mirror.specs.declared.update.Update.TheVariants.{Diff, Full}
 use Rattle.vt_mirror.proofs.Bookkeeping.{by_number, none_some}
-use Rattle.vt_screen.proofs.Sizing.{resized_is, resized_plain, resized_size}
+use Rattle.vt_screen.proofs.SizeRuns.{resized_is, resized_plain, resized_size}
 
 -- ---- the screen recorded for a number whose viewer gets no update: the same as before, or none
 

@@ -1,18 +1,28 @@
--- The copies of screens that a mirror keeps for its viewers, numbered by version and shared between viewers, and the
--- texts of updates that it stores.
-use Rattle.std.specs.Prelude.{◌≡◌, ◌⊎◌, ℕ, suc, ◌<◌, ◌≤◌, ◌==◌, ◌&&◌, nat_lt, Bool, false, List, filter, map, string_bytes}
-use Rattle.std.specs.Prelude.{Option, Some, None}
+-- The copies of screens and the texts of updates that a mirror keeps for its viewers, and their invariant.
+use Rattle.std.specs.Prelude.{◌≡◌, ◌⊎◌, ℕ, suc, ◌<◌, ◌≤◌, ◌==◌, ◌&&◌, nat_lt, Bool, false, List, filter, map}
+use Rattle.std.specs.Prelude.{string_bytes, Option, Some, None, IfSome}
 use Rattle.std.specs.BTreeMap.{is_at}
 use Rattle.std.specs.Map.{lookup}
 use Rattle.std.specs.Ordering.{nat_cmp}
+use Rattle.vt_redraw.specs.declared.form.Form.{Form}
+use Rattle.vt_redraw.specs.declared.form.Form.TheVariants.{Portable}
 use Rattle.vt_screen.specs.Screen.{ScreenValue}
 use Rattle.vt_screen.specs.declared.diff_options.DiffOptions.{DiffOptions}
+use Rattle.vt_screen.specs.Again.{KeepsPlain}
+use Rattle.vt_screen.specs.MadeOf.{IsMadeOf, drawing_controls, drawing_finals}
+use Rattle.vt_screen.specs.Portable.{IsPortableAnywhere}
+use Rattle.vt_screen.specs.Shown.{IsReader, KeepsRest, Redraws, display, form_of, shown_text_in}
+use Rattle.vt100.specs.Parser.{ParserValue}
 use Rattle.vt_mirror.specs.Viewers.{AreViewers, ViewersValue}
-use Rattle.vt_mirror.specs.Calls.{greatest}
+use Rattle.vt_mirror.specs.Calls.{greatest, IsDiffFor}
 use Rattle.vt_mirror.specs.declared.copies.Note.{Note}
 use Rattle.vt_mirror.specs.declared.texts.KeptDiff.{KeptDiff}
 use Rattle.vt_mirror.specs.declared.texts.KeptRedraw.{KeptRedraw}
 use Rattle.vt_mirror.specs.declared.texts.Texts.{Texts}
+use Rattle.vt_mirror.specs.Mirror.{IsMirror}
+
+-- ==== The copies of screens that a mirror keeps for its viewers, numbered by version and shared between viewers, and
+-- the texts of updates that it stores.
 
 -- ---- the model of the kept values
 
@@ -130,3 +140,26 @@ IsRenewed screen version current after renewed =
 pub record IsCurrentNote (self : ScreenValue) (current : Option Note) (note : Note) : Type 0 where
   pub screen : note.screen ≡ self
   pub kept : current ≡ Some note
+
+-- ==== The invariant of the copies of screens and the texts of updates that a mirror keeps.
+
+-- The text is the redraw of the screen `self` in the given form.
+pub record IsRedraw (form : Form) (self : ScreenValue) (text : List ℕ) : Type 0 where
+  pub is : text ≡ shown_text_in form self
+  pub redraws : Redraws (display self) (IsReader (display self)) KeepsRest text
+  pub controls : IsMadeOf drawing_finals drawing_controls text
+  pub again : KeepsPlain text
+  pub portable : form ≡ Portable → IsPortableAnywhere self text
+
+-- Each stored text is a diff to the screen `self`, or its redraw.
+pub record AreTexts (self : ScreenValue) (texts : Texts) : Type 0 where
+  pub diffs : (diff : KeptDiff) → HoldsDiff texts diff →
+      IsDiffFor diff.options self diff.from.screen (string_bytes diff.text)
+  pub redraw : IfSome texts.redraw (λ redraw. IsRedraw (form_of redraw.portable) self (string_bytes redraw.text))
+
+-- The recorded screens have the mirror's size, the copy of the current screen equals the mirror's screen, and the
+-- stored texts are diffs to that screen or its redraw.
+pub record IsSharing (parser : ParserValue (Unit {0})) (kept : KeptValue) : Type 0 where
+  pub sized : IsMirror (record { parser = parser; viewers = kept.viewers; current = kept.current_viewers })
+  pub current : IfSome kept.current (λ screen. screen ≡ parser.screen)
+  pub texts : AreTexts parser.screen kept.texts

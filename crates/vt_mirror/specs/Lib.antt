@@ -1,12 +1,13 @@
+-- Mirrors and their viewers
 pub mod Viewers
-pub mod Alike
-pub mod Kept
 pub mod Mirror
 pub mod Calls
-pub mod Sharing
+pub mod Alike
 pub mod Watching
 pub mod Healing
-pub mod Arguments
-pub mod Endings
+-- The program
+pub mod Program
 pub mod Runs
+-- For invariants and private functions only
+pub mod Kept
 pub mod Internals

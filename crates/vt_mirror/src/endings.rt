@@ -1,7 +1,7 @@
 //! The messages and exit statuses of runs that fail.
 
 ghost use Rattle.std.specs.Prelude.{◌≡◌};
-ghost use Rattle.vt_mirror.specs.Endings.{line_of, status_of};
+ghost use Rattle.vt_mirror.specs.Program.{line_of, status_of};
 
 use vt_show::Fault;
 

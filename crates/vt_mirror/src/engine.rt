@@ -3,7 +3,7 @@
 
 ghost use Rattle.std.specs.Io.KnownBytes.{Keeps};
 ghost use Rattle.std.specs.Prelude.{◌≡◌, ◌≢◌, ◌<◌, ◌↔◌, Err, IfErr, IfOk, None, OnOk, Some, map, string_bytes, true};
-ghost use Rattle.vt_mirror.specs.Arguments.{AskFor, AskForNothing};
+ghost use Rattle.vt_mirror.specs.Program.{AskFor, AskForNothing};
 ghost use Rattle.vt_mirror.specs.Internals.{IsBegun, ReadsAtMost, ReadsFewer, ReadsStretch};
 ghost use Rattle.vt_mirror.specs.Internals.{WritesUpdate, WritesUpdatePart};
 ghost use Rattle.vt_mirror.specs.Runs.{UpdatesOrFails};

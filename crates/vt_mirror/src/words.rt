@@ -2,7 +2,7 @@
 
 ghost use Rattle.std.specs.Int.NonZero.{non_zero_u16_get};
 ghost use Rattle.std.specs.Prelude.{map, string_bytes, IfNone, IfSome};
-ghost use Rattle.vt_mirror.specs.Arguments.{AskForNothing, AsksToMirror};
+ghost use Rattle.vt_mirror.specs.Program.{AskForNothing, AsksToMirror};
 
 use std::num::NonZeroU16;
 use vt_show::size;

@@ -1,7 +1,7 @@
 //! Notes, each of which records a call to a method of `Callbacks`.
 
 ghost use Rattle.std.specs.Prelude.{◌≡◌, map, IfOk};
-ghost use Rattle.vt_notes.specs.Meanings.{HasText, value_of};
+ghost use Rattle.vt_notes.specs.Noting.{HasText, value_of};
 ghost use Rattle.vt_screen.specs.Calls as calls;
 ghost use Rattle.vt_screen.specs.Meanings.{call_of};
 

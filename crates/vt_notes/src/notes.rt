@@ -1,8 +1,7 @@
 //! Callbacks that record each call in a note.
 
 ghost use Rattle.std.specs.Prelude.{◌≡◌, ◌⊎◌, map, true, All, IfOk, OnErr, OnOk};
-ghost use Rattle.vt_notes.specs.Meanings.{HasText, value_of};
-ghost use Rattle.vt_notes.specs.Noting.{nothing_noted, with_call, with_gap};
+ghost use Rattle.vt_notes.specs.Noting.{HasText, value_of, nothing_noted, with_call, with_gap};
 
 use crate::note::Note;
 use std::alloc::{AllocError, Global};
@@ -20,8 +19,7 @@ pub struct Notes {
 
 impl Model for Notes {
     ghost use Rattle.std.specs.Prelude.{map, All};
-    ghost use Rattle.vt_notes.specs.Meanings.{HasText, value_of};
-    ghost use Rattle.vt_notes.specs.Noting.{Noted};
+    ghost use Rattle.vt_notes.specs.Noting.{HasText, value_of, Noted};
 
     ghost Value = { Noted };
 

@@ -96,10 +96,10 @@ impl Callbacks for Recorder {
 
     ghost does = { Records };
 
-    #[tactic(auto, using(crate::proofs::Recording::other_call))]
+    #[tactic(auto, using(crate::proofs::Runs::other_call))]
     fn otherwise(&mut self, _screen: &mut Screen, _call: Call<'_>) {}
 
-    #[tactic(auto, using(crate::proofs::Recording::with_none))]
+    #[tactic(auto, using(crate::proofs::Runs::with_none))]
     fn on_scroll(&mut self, row: RowContents<'_>, alternate: bool) {
         if alternate {
             return;

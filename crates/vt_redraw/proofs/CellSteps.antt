@@ -6,14 +6,14 @@ use Rattle.std.proofs.lemmas.List.Concat.{flat_map-append}
 use Rattle.std.proofs.lemmas.List.{drop_more, drop_all, drop-drop, length-drop}
 use Rattle.std.proofs.Math.Bool.{or-true}
 use Rattle.std.proofs.Math.Numerals.{one-add}
-use Rattle.vt_cells.proofs.Same.{same_attrs-itself}
+use Rattle.vt_cells.proofs.Attributes.{same_attrs-itself}
 use Rattle.vt_cells.specs.Attrs.{default_attrs, same_attrs, Attrs}
 use Rattle.vt_cells.specs.Cell.{CellValue, blank, glyph, right_half, default_blank, is_blank}
 use Rattle.vt_cells.specs.Cell.{is_right_half, is_wide, attrs_of, text_of, same_cell}
 use Rattle.vt_cells.specs.Op.{Op, Print, bytes_of, bytes_of_all}
 use Rattle.vt_rows.specs.Cells.{at, IsPaired}
 use Rattle.vt_redraw.specs.Items.{with_whole_start, with_whole_start_over}
-use Rattle.vt_cells.proofs.SameCells.{same_cell-itself}
+use Rattle.vt_cells.proofs.Cells.{same_cell-itself}
 use Rattle.vt_redraw.specs.Internals.{Leads, IsRange, Passes, cells_from}
 use Rattle.vt_redraw.proofs.Filling.{room}
 use Rattle.vt_cells.specs.Glyph.{glyph_columns}

@@ -18,18 +18,16 @@ use Rattle.vt_grid.specs.Canvas.{Canvas}
 use Rattle.vt_redraw.specs.Script.{pen_at, move_ops, attr_ops_in, back_op}
 use Rattle.vt_redraw.specs.declared.form.Form.{Form}
 use Rattle.vt_redraw.specs.declared.pen.Pen.{Pen}
-use Rattle.vt_grid.proofs.Drawing.{Draws, draws_then}
-use Rattle.vt_redraw.proofs.Steps.{at_pen, Reads, Within, going_draws, changing_draws, back_draws}
+use Rattle.vt_grid.proofs.Texts.{Draws, draws_then}
+use Rattle.vt_redraw.proofs.Edits.{at_pen, Reads, Within, going_draws, changing_draws, back_draws, row_of, mid}
 use Rattle.vt_redraw.specs.Picture.{Saved, with_saved}
 use Rattle.vt_redraw.specs.Script.{after_last_glyph, is_at, last_column}
 use Rattle.vt_redraw.specs.Locality.{placing_row}
 use Rattle.vt_redraw.proofs.Touched.{DrawsIn, in_then, in_to, quiet_in, going_quiet, changing_quiet, feeds_quiet}
 use Rattle.vt_redraw.specs.Redraw.{nearest, blank_passed, over_blank, under_last, pending_at, cursor_written, strays}
-use Rattle.vt_redraw.proofs.Halves.{Paired}
-use Rattle.vt_redraw.proofs.Flags.{ends, ends_is, Sound}
-use Rattle.vt_redraw.proofs.Edits.{row_of, mid}
+use Rattle.vt_redraw.proofs.Halves.{Paired, ends, ends_is, Sound}
 use Rattle.vt_redraw.proofs.Places.{going_there}
-use Rattle.vt_redraw.proofs.Spaces.{space_prints}
+use Rattle.vt_redraw.proofs.Texts.{space_prints}
 use Rattle.vt_redraw.proofs.Link.{erase_last, going_after_draws, print_bare, same_pen}
 use Rattle.vt_redraw.proofs.Rows.{Stands, PrintsRow}
 use Rattle.vt_redraw.proofs.Touched.{back_quiet}

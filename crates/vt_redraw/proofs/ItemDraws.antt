@@ -16,7 +16,7 @@ use Rattle.vt_rows.specs.Cells.{at, blanks, ends_blank}
 use Rattle.vt_rows.specs.Row.{RowValue, IsRow, blank_row}
 use Rattle.vt_grid.specs.Page.{row_at, row_or}
 use Rattle.vt_grid.specs.Canvas.{Canvas, drawn_all}
-use Rattle.vt_grid.proofs.Drawing.{Draws}
+use Rattle.vt_grid.proofs.Texts.{Draws}
 use Rattle.vt_redraw.specs.Items.{range_written, is_whole, item_of_difference, item_of_redraw, linked_item, with_range}
 use Rattle.vt_redraw.specs.Items.{CutsNone, AwaitsItem, changed_row, formatted_row, row_drawn, going_on}
 use Rattle.vt_redraw.specs.Picture.{Picture, IsPicture}
@@ -24,15 +24,13 @@ use Rattle.vt_redraw.specs.Script.{Scripted, pen_at}
 use Rattle.vt_redraw.specs.Steady.{IsSteady, IsSteadyCell}
 use Rattle.vt_redraw.specs.declared.pen.Pen.{Pen}
 use Rattle.vt_redraw.proofs.Difference.{row_stands, picture_prints}
-use Rattle.vt_redraw.proofs.Edits.{row_of, mid, two}
-use Rattle.vt_redraw.proofs.Flags.{ends_is}
-use Rattle.vt_redraw.proofs.Halves.{paired_of}
+use Rattle.vt_redraw.proofs.Edits.{row_of, mid, two, Reads}
+use Rattle.vt_redraw.proofs.Halves.{ends_is, paired_of}
 use Rattle.vt_redraw.proofs.Places.{PrintsCells}
-use Rattle.vt_redraw.proofs.RangeDraws.{IsItem, range_draws}
+use Rattle.vt_redraw.proofs.Ranges.{IsItem, range_draws}
 use Rattle.vt_redraw.proofs.Rows.{PrintsRow}
-use Rattle.vt_redraw.proofs.Steps.{Reads}
 use Rattle.vt_redraw.proofs.WholeItems.{whole_item_draws, linked_item_draws, linked_item_wraps, range_all}
-use Rattle.vt_redraw.proofs.UncutItems.{clean_range, cuts_no_blanks, past_half, first_half, cells_off, linked_off}
+use Rattle.vt_redraw.proofs.ItemRanges.{clean_range, cuts_no_blanks, past_half, first_half, cells_off, linked_off}
 
 -- ---- one row among others
 

@@ -13,26 +13,22 @@ use Rattle.vt_cells.specs.Glyph.{glyph_columns}
 use Rattle.vt_redraw.specs.Script.{pen_at, pen_in, attr_ops_in, back_op}
 use Rattle.vt_redraw.specs.declared.form.Form.{Form}
 use Rattle.vt_redraw.specs.declared.pen.Pen.{Pen}
-use Rattle.vt_redraw.proofs.Steps.{Reads, Within, changing_draws, back_draws}
+use Rattle.vt_redraw.proofs.Edits.{Reads, Within, changing_draws, back_draws, row_of, mid, two, two_mid, orphan}
+use Rattle.vt_redraw.proofs.Edits.{chars_erased, Spot, with_glyph, glyph_flag}
 use Rattle.vt_redraw.specs.Script.{Linked, first_written, is_nil, is_torn, no_link, wrapped_after_glyph}
 use Rattle.vt_redraw.specs.Script.{after_last_glyph, is_at, last_column, ops_then_link, row_link, starts_other}
-use Rattle.vt_redraw.proofs.Halves.{Paired, paired_loose, loose_step, opened_paired, opened_twice}
-use Rattle.vt_redraw.proofs.Flags.{ends, kept, Sound, sound_kept, flag_step}
-use Rattle.vt_redraw.proofs.Edits.{row_of, mid, two, two_mid, orphan, chars_erased}
-use Rattle.vt_redraw.proofs.Spots.{Spot, with_glyph, glyph_flag}
-use Rattle.vt_redraw.proofs.Texts.{Prints}
-use Rattle.vt_redraw.proofs.Printing.{no_tear}
+use Rattle.vt_redraw.proofs.Halves.{Paired, paired_loose, loose_step, opened_paired, opened_twice, ends, kept, Sound}
+use Rattle.vt_redraw.proofs.Halves.{sound_kept, flag_step}
+use Rattle.vt_redraw.proofs.Texts.{Prints, no_tear, space_prints}
 use Rattle.vt_redraw.proofs.Touched.{DrawsIn, in_then, in_to, quiet_in, changing_quiet, changes_at, back_quiet}
-use Rattle.vt_redraw.proofs.TouchedTexts.{MayGlyph, print_in, print_in_wraps}
-use Rattle.vt_redraw.proofs.Lets.{Lets, torn_may}
-use Rattle.vt_redraw.proofs.Standing.{starts_none}
-use Rattle.vt_redraw.proofs.Spaces.{space_prints}
+use Rattle.vt_redraw.proofs.Touched.{MayGlyph, print_in, print_in_wraps}
+use Rattle.vt_redraw.proofs.Row.{Lets, torn_may, starts_none}
 use Rattle.vt_redraw.proofs.Places.{PrintsCells, shown, Ready}
-use Rattle.vt_redraw.proofs.Link.{erase_touches, going_after_draws, no_tail}
-use Rattle.vt_redraw.proofs.Forms.{after_form}
+use Rattle.vt_redraw.proofs.Link.{erase_touches, going_after_draws}
+use Rattle.vt_redraw.proofs.Ranges.{no_tail, Any}
+use Rattle.vt_redraw.proofs.Fitting.{after_form}
 use Rattle.vt_redraw.proofs.PortableLinks.{after_portably, first_glyph_portably, unspaced_portably}
 use Rattle.vt_redraw.proofs.PortableParts.{Portably, nothing_portably, portably_both}
-use Rattle.vt_redraw.proofs.RangeDraws.{Any}
 use Rattle.vt_redraw.specs.Script.{shifts}
 use Rattle.vt_redraw.specs.declared.form.Form.TheVariants.{Fixed, Portable}
 

@@ -9,12 +9,12 @@ use Rattle.std.proofs.lemmas.List.{at_drop_more, take_more}
 use Rattle.std.proofs.lemmas.List.Elements.{recursion_from_All}
 use Rattle.vt_cells.specs.Attrs.{Attrs, default_attrs, same_attrs}
 use Rattle.vt_cells.specs.Cell.{CellValue, IsCell, default_blank, blank, glyph, right_half, attrs_of, same_cell, text_of}
-use Rattle.vt_cells.specs.CellInternals.{HeadValue, head_of_cell}
+use Rattle.vt_cells.specs.Internals.{HeadValue, head_of_cell}
 use Rattle.vt_cells.specs.Glyph.{glyph_columns}
 use Rattle.vt_cells.specs.Op.{ClearAttrs, EraseBelow, Hide, MoveTo, Op, Print, bytes_of, bytes_of_all, change_numbers}
 use Rattle.vt_cells.specs.Op.{change_text, csi, semicolon_list, ChangeAttrs}
 use Rattle.vt_cells.proofs.Glyphs.{IsGlyphText-length}
-use Rattle.vt_cells.proofs.Same.{same_attrs-itself}
+use Rattle.vt_cells.proofs.Attributes.{same_attrs-itself}
 use Rattle.vt_cells.proofs.Texts.{bytes_of_all-append}
 use Rattle.vt_rows.specs.Cells.{at, blanks}
 use Rattle.vt_rows.specs.Row.{RowValue, IsRow, blank_row}
@@ -28,8 +28,7 @@ use Rattle.vt_redraw.specs.Redraw.{rows_written, script_in, redraw_in}
 use Rattle.vt_redraw.specs.Script.{Linked, Scripted, after_last_glyph, blank_run, cells_written, erase_run}
 use Rattle.vt_redraw.specs.Script.{first_written, is_at, is_blank_of, move_ops, no_link, ops_then, ops_then_link}
 use Rattle.vt_redraw.specs.Script.{placed_op, row_break, row_link, starts_other, wrapped_after_erasure, wrapped_after_glyph}
-use Rattle.vt_redraw.proofs.Halves.{Loose, Paired, loose_step, paired_loose, paired_of}
-use Rattle.vt_redraw.proofs.Runs.{blank_of_is}
+use Rattle.vt_redraw.proofs.Halves.{Loose, Paired, loose_step, paired_loose, paired_of, blank_of_is}
 use Rattle.vt_redraw.specs.Script.{pen_in, change_ops, resets, pen_past}
 use Rattle.vt_redraw.specs.Script.{attr_ops_in}
 

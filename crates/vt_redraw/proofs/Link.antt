@@ -1,35 +1,25 @@
 -- Printing the last glyph of a row again, and the break between a row and the next.
-use Rattle.std.proofs.Common.{◌≡◌, ◌≢◌, ◌⊎◌, ℕ, suc, ◌+◌, ◌-◌, ◌<◌, ◌≤◌, ◌==◌, ◌&&◌, min, Bool, true, false, not, List}
-use Rattle.std.proofs.Common.{[], ◌∷◌, ◌++◌, length, take, drop, Some, inl, inr, refl, sym, ap, ◌∙◌, subst, arith}
+use Rattle.std.proofs.Common.{◌≡◌, ℕ, suc, ◌+◌, ◌-◌, ◌<◌, ◌≤◌, ◌==◌, ◌&&◌, min, Bool, true, false, not, List, [], ◌∷◌}
+use Rattle.std.proofs.Common.{◌++◌, length, Some, refl, sym, ap, ◌∙◌, subst, arith}
 use Rattle.std.proofs.lemmas.Bool.{cond_both, and_parts, eqb-true}
-use Rattle.std.proofs.lemmas.List.{length-append, take-append-drop}
-use Rattle.vt_cells.specs.Cell.{CellValue, blank, glyph, right_half, default_blank, is_wide, text_of, attrs_of}
-use Rattle.vt_rows.specs.Cells.{at}
+use Rattle.std.proofs.lemmas.List.{length-append}
+use Rattle.vt_cells.specs.Cell.{CellValue, blank, glyph, right_half, default_blank, text_of, attrs_of}
 use Rattle.vt_cells.specs.Op.{Print, EraseChars}
 use Rattle.vt_cells.specs.Attrs.{Attrs, default_attrs}
+use Rattle.vt_cells.specs.Glyph.{glyph_columns}
 use Rattle.vt_rows.specs.Row.{RowValue}
 use Rattle.vt_grid.specs.Canvas.{Canvas}
-use Rattle.vt_cells.specs.Glyph.{glyph_columns}
-use Rattle.vt_redraw.specs.Script.{pen_at, move_ops, attr_ops_in, erased_count}
+use Rattle.vt_redraw.specs.Script.{pen_at, move_ops, attr_ops_in, erased_count, Scripted, no_ops, placed_op}
+use Rattle.vt_redraw.specs.Script.{last_column, after_last_glyph, break_ops, is_at, last_glyph, pen_after, row_break}
 use Rattle.vt_redraw.specs.declared.pen.Pen.{Pen}
-use Rattle.vt_redraw.proofs.Steps.{Reads, Within, changing_draws}
-use Rattle.vt_redraw.specs.Script.{Scripted, no_ops, placed_op, cells_written, last_column}
-use Rattle.vt_redraw.specs.Script.{after_last_glyph, break_ops, is_at, last_glyph, pen_after, row_break}
-use Rattle.vt_redraw.specs.Redraw.{row_written}
-use Rattle.vt_redraw.proofs.Halves.{Paired, opened_paired}
-use Rattle.vt_redraw.proofs.Flags.{ends, ends_append, kept, Sound}
-use Rattle.vt_redraw.proofs.Edits.{row_of, mid, glyph_cells, chars_erased}
-use Rattle.vt_redraw.proofs.Texts.{Prints, glyph_at, mark_column_at}
-use Rattle.vt_redraw.proofs.Places.{PrintsCells, Place, shown, Ready, Wrote, doing_draws, going_there, second_left}
-use Rattle.vt_redraw.specs.Touching.{Changes, Touches}
-use Rattle.vt_redraw.proofs.Touched.{DrawsIn, in_then, in_to, quiet_in, changing_quiet, changes_at}
-use Rattle.vt_redraw.proofs.TouchedTexts.{print_in}
-use Rattle.vt_redraw.proofs.Lets.{Lets}
-use Rattle.vt_redraw.proofs.Standing.{row_nothing, row_equal}
-use Rattle.vt_redraw.proofs.Row.{cells_draw}
+use Rattle.vt_redraw.specs.Locality.{Changes, Touches}
 use Rattle.vt_redraw.specs.declared.form.Form.{Form}
-use Rattle.vt_redraw.specs.declared.form.Form.TheVariants.{Fixed}
-use Rattle.vt_redraw.specs.declared.form.Form.TheVariants.{Portable}
+use Rattle.vt_redraw.specs.declared.form.Form.TheVariants.{Fixed, Portable}
+use Rattle.vt_redraw.proofs.Edits.{Reads, Within, changing_draws, row_of, mid, glyph_cells, chars_erased}
+use Rattle.vt_redraw.proofs.Halves.{Paired, ends, ends_append, kept, Sound}
+use Rattle.vt_redraw.proofs.Texts.{Prints, glyph_at, mark_column_at}
+use Rattle.vt_redraw.proofs.Places.{PrintsCells, doing_draws, going_there, second_left}
+use Rattle.vt_redraw.proofs.Touched.{DrawsIn, in_then, in_to, quiet_in, changing_quiet, changes_at, print_in}
 
 -- ---- the last glyph
 
@@ -409,103 +399,3 @@ broken_draws May base done below xs flag wanted r height pen reads e rows w h so
     r height pen reads e rows w h (sound (and_true flag (not wanted) t)) prints within may)
     (λ (t : (flag && not wanted) ≡ false).
     record { draws = record { draws = refl; touches = tt }; within = within; keeps = wants flag wanted t })
-
--- ---- a whole row
-
-pub drop_whole : (xs ys : List CellValue) → length xs ≡ length ys → xs ++ drop (length xs) ys ≡ xs
-drop_whole [] [] h = refl
-drop_whole [] (y ∷ ys) h = absurd (omega arith)
-drop_whole (x ∷ xs) [] h = absurd (omega arith)
-drop_whole (x ∷ xs) (y ∷ ys) h = ap (λ (z : List CellValue). x ∷ z) (drop_whole xs ys (omega arith))
-
-pub no_tail : (xs ys : List CellValue) → length xs ≡ length ys → Paired (drop (length xs) ys)
-no_tail [] [] h = tt
-no_tail [] (y ∷ ys) h = absurd (omega arith)
-no_tail (x ∷ xs) [] h = absurd (omega arith)
-no_tail (x ∷ xs) (y ∷ ys) h = no_tail xs ys (omega arith)
-
--- The positions that may be touched if the row `x` differs from the terminal's row `y`.
-pub record RowMay (May : ℕ → ℕ → Type 0) (width r : ℕ) (x y : RowValue) : Type 0 where
-  pub lets : Lets May r 0 x.cells y.cells
-  pub begin : May r 0
-  pub second : is_wide (at x.cells 0) ≡ true → May r 1
-  pub last : (k : ℕ) → last_column x.cells ≤ k → k < width → May r k
-
--- The cells of a row that differs from the terminal's row, and the break after them, are drawn.
-differing_draws : (May : ℕ → ℕ → Type 0) (base : Canvas) (done below : List RowValue)
-    (x y : RowValue) (o : CellValue) (r k height : ℕ) (pen : Pen) (flag : Bool) →
-    Reads base height base.page.width → length done ≡ r → r + suc (length below) ≡ height →
-    length x.cells ≡ base.page.width → Paired x.cells → length y.cells ≡ base.page.width →
-    Ready x.cells y.cells [] o k flag → PrintsCells base.page.width x.cells →
-    Within pen height base.page.width → RowMay May base.page.width r x y →
-    Broke May (row_written r k pen flag x y.cells) base done below
-    (mid base done below (shown [] o k x.cells y.cells) flag pen) x.cells x.wrapped height
-unfolding row_written
-differing_draws May base done below x y o r k height pen flag reads e rows w h v ready prints within may =
-    let cells = cells_written r 0 pen flag k x.cells y.cells in
-    let start = mid base done below (shown [] o k x.cells y.cells) flag pen in
-    let place : Place base done below [] r 0 height (length y.cells) =
-    record { reads = reads; above = e; rows = rows; before = refl; columns = omega arith } in
-    let one = subst (λ (z : List CellValue). Wrote May cells base done below start z height)
-    (drop_whole x.cells y.cells (w ∙ sym v))
-    (cells_draw May base done below x.cells y.cells [] o r 0 k pen flag height place ready prints within may.lets) in
-    let two = broken_draws May base done below x.cells cells.flag x.wrapped r
-    height cells.pen reads e rows w h one.sound prints one.within may.last in
-    let last = row_break r cells.pen cells.flag x.wrapped x.cells in
-    record {
-      draws =
-          in_then May cells.ops last.ops start (mid base done below x.cells cells.flag cells.pen)
-          (mid base done below x.cells last.flag last.pen) one.draws two.draws;
-      within = two.within;
-      keeps = two.keeps;
-    }
-
-same_row : (xs : List CellValue) (o : CellValue) (k : ℕ) → Paired (drop k xs) → shown [] o k xs xs ≡ xs
-same_row xs o k h = ap (λ (z : List CellValue). take k xs ++ z) (opened_paired o (drop k xs) h) ∙ take-append-drop k xs
-
--- Drawing a row that the terminal displays already leaves it unchanged.
-standing_draws : (May : ℕ → ℕ → Type 0) (base : Canvas) (done below : List RowValue)
-    (x : RowValue) (o : CellValue) (r k height : ℕ) (pen : Pen) →
-    Ready x.cells x.cells [] o k x.wrapped → Within pen height base.page.width →
-    Broke May (row_written r k pen x.wrapped x x.cells) base done below
-    (mid base done below (shown [] o k x.cells x.cells) x.wrapped pen) x.cells x.wrapped height
-standing_draws May base done below x o r k height pen ready within =
-    let start = mid base done below (shown [] o k x.cells x.cells) x.wrapped pen in
-    subst (λ (v : Scripted). Broke May v base done below start x.cells x.wrapped height) (sym (row_nothing r k pen x))
-    (record {
-      draws = record {
-        draws =
-            ap (λ (z : List CellValue). Some (mid base done below z x.wrapped pen)) (same_row x.cells o k ready.new);
-        touches = tt;
-      };
-      within = within;
-      keeps = λ t. t;
-    })
-
--- A row is drawn over the terminal's row; if both are equal, the terminal's row must have the same wrapped flag.
-pub row_draws : (May : ℕ → ℕ → Type 0) (base : Canvas) (done below : List RowValue)
-    (x y : RowValue) (o : CellValue) (r k height : ℕ) (pen : Pen) (flag : Bool) →
-    Reads base height base.page.width → length done ≡ r → r + suc (length below) ≡ height →
-    length x.cells ≡ base.page.width → Paired x.cells → length y.cells ≡ base.page.width →
-    Ready x.cells y.cells [] o k flag → PrintsCells base.page.width x.cells → Within pen height base.page.width →
-    (x ≡ y → flag ≡ y.wrapped) → (x ≢ y → RowMay May base.page.width r x y) →
-    Broke May (row_written r k pen flag x y.cells) base done below
-    (mid base done below (shown [] o k x.cells y.cells) flag pen) x.cells x.wrapped height
-row_draws May base done below x y o r k height pen flag reads e rows w h v ready prints within same may =
-    by_rows (row_equal x y)
-  where
-    Goal : RowValue → Bool → Type 0
-    Goal z f =
-        Ready x.cells z.cells [] o k f →
-        Broke May (row_written r k pen f x z.cells) base done below
-        (mid base done below (shown [] o k x.cells z.cells) f pen) x.cells x.wrapped height
-
-    by_rows : (x ≡ y) ⊎ (x ≢ y) →
-        Broke May (row_written r k pen flag x y.cells) base done below
-        (mid base done below (shown [] o k x.cells y.cells) flag pen) x.cells x.wrapped height
-    by_rows (inl t) =
-        let f : x.wrapped ≡ flag = ap (λ (z : RowValue). z.wrapped) t ∙ sym (same t) in
-        subst (λ (z : RowValue). Goal z flag) t
-        (subst (λ (b : Bool). Goal x b) f (λ q. standing_draws May base done below x o r k height pen q within)) ready
-    by_rows (inr ne) =
-        differing_draws May base done below x y o r k height pen flag reads e rows w h v ready prints within (may ne)

@@ -11,14 +11,14 @@ use Rattle.vt_rows.specs.Row.{RowValue}
 use Rattle.vt_grid.specs.Canvas.{Canvas}
 use Rattle.vt_redraw.specs.Script.{pen_at, move_ops, erase_run, attr_ops_in}
 use Rattle.vt_redraw.specs.declared.pen.Pen.{Pen}
-use Rattle.vt_grid.proofs.Drawing.{Draws}
-use Rattle.vt_redraw.proofs.Steps.{at_pen, Reads, Within, going_draws, changing_draws}
+use Rattle.vt_grid.proofs.Texts.{Draws}
+use Rattle.vt_redraw.proofs.Edits.{at_pen, Reads, Within, going_draws, changing_draws, row_of, mid, run_erased}
+use Rattle.vt_redraw.proofs.Edits.{chars_erased}
 use Rattle.vt_redraw.specs.Script.{Scripted, is_nil, is_torn, ops_then, placed_op, wrapped_after_erasure}
-use Rattle.vt_redraw.proofs.Halves.{Paired, Loose, drop_opened, opened_paired}
-use Rattle.vt_redraw.proofs.Flags.{ends_append, ends_blanks, kept, Sound, flag_step}
-use Rattle.vt_redraw.proofs.Edits.{row_of, mid, run_erased, chars_erased}
+use Rattle.vt_redraw.proofs.Halves.{Paired, Loose, drop_opened, opened_paired, ends_append, ends_blanks, kept, Sound}
+use Rattle.vt_redraw.proofs.Halves.{flag_step}
 use Rattle.vt_redraw.proofs.Texts.{Prints}
-use Rattle.vt_redraw.specs.Touching.{Changes, Touches}
+use Rattle.vt_redraw.specs.Locality.{Changes, Touches}
 use Rattle.vt_redraw.proofs.Touched.{DrawsIn, in_then, quiet_in, going_quiet, changing_quiet, changes_at}
 use Rattle.std.proofs.lemmas.Bool.{cases_lt}
 use Rattle.vt_redraw.specs.declared.form.Form.{Form}

@@ -6,7 +6,7 @@ use Rattle.vt_cells.specs.Attrs.{Attrs}
 use Rattle.vt_cells.specs.Cell.{CellValue, blank, glyph, right_half, is_right_half, same_cell}
 use Rattle.vt_cells.specs.Glyph.{glyph_columns}
 use Rattle.vt_cells.specs.Op.{Print}
-use Rattle.vt_cells.proofs.SameCells.{cell_of-same}
+use Rattle.vt_cells.proofs.Cells.{cell_of-same}
 use Rattle.vt_rows.specs.Cells.{blanks, cells_after_cut}
 use Rattle.vt_rows.specs.Row.{RowValue}
 use Rattle.vt_grid.specs.Canvas.{Canvas}
@@ -15,22 +15,18 @@ use Rattle.vt_redraw.specs.Script.{placed_op, shifts, wrapped_after_erasure, wra
 use Rattle.vt_redraw.specs.declared.form.Form.{Form}
 use Rattle.vt_redraw.specs.declared.form.Form.TheVariants.{Fixed, Portable}
 use Rattle.vt_redraw.specs.declared.pen.Pen.{Pen}
-use Rattle.vt_redraw.proofs.Edits.{mid, orphan}
-use Rattle.vt_redraw.proofs.Flags.{Sound, sound_kept}
-use Rattle.vt_redraw.proofs.Halves.{Loose, Paired, loose_drop, loose_step, opened_paired, paired_append, paired_blanks}
-use Rattle.vt_redraw.proofs.Halves.{paired_loose}
+use Rattle.vt_redraw.proofs.Edits.{mid, orphan, glyph_flag, with_glyph, Within}
+use Rattle.vt_redraw.proofs.Halves.{Sound, sound_kept, Loose, Paired, loose_drop, loose_step, opened_paired}
+use Rattle.vt_redraw.proofs.Halves.{paired_append, paired_blanks, paired_loose, run_blanks, run_bound}
 use Rattle.vt_redraw.proofs.Places.{Place, PrintsCells, Ready, next_place, ready_next, run_flagged, run_in}
 use Rattle.vt_redraw.proofs.Places.{second_left, shown}
 use Rattle.vt_redraw.proofs.PortableParts.{Portably, doing_portably, glyph_portably, nothing_portably, portably_both}
 use Rattle.vt_redraw.proofs.PortableParts.{run_portably}
 use Rattle.vt_redraw.proofs.Places.{doing_draws}
-use Rattle.vt_redraw.proofs.RangeDraws.{Any}
+use Rattle.vt_redraw.proofs.Ranges.{Any}
 use Rattle.vt_redraw.proofs.Row.{after_wide, glyph_spot, pen_within, run_paired}
-use Rattle.vt_redraw.proofs.Runs.{run_blanks, run_bound}
-use Rattle.vt_redraw.proofs.Spots.{glyph_flag, with_glyph}
-use Rattle.vt_redraw.proofs.Steps.{Within}
 use Rattle.vt_redraw.proofs.Texts.{Prints}
-use Rattle.vt_redraw.proofs.TouchedTexts.{print_in}
+use Rattle.vt_redraw.proofs.Touched.{print_in}
 
 -- The output of `w` is portable where the row has the cells `start`, and the row then has the cells `goal`.
 abbrev pub Written : Scripted → Canvas → (done below : List RowValue) → (start : List CellValue) → (flag : Bool) → Pen →

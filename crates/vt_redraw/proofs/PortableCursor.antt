@@ -12,9 +12,9 @@ use Rattle.vt_rows.specs.Cells.{at, ends_blank}
 use Rattle.vt_rows.specs.Row.{RowValue, blank_row}
 use Rattle.vt_grid.specs.Canvas.{Canvas}
 use Rattle.vt_grid.specs.Page.{cursor_row, row_or}
-use Rattle.vt_grid.proofs.Drawing.{Draws}
+use Rattle.vt_grid.proofs.Texts.{Draws}
 use Rattle.vt_redraw.specs.Doubts.{Doubts, Unsure, no_doubts}
-use Rattle.vt_redraw.specs.PortableOps.{PortableOps, doubts_after_op}
+use Rattle.vt_redraw.specs.Uses.{PortableOps, doubts_after_op}
 use Rattle.vt_redraw.specs.Redraw.{cursor_written, nearest, over_blank, pending_at}
 use Rattle.vt_redraw.specs.Redraw.{blank_passed, strays, under_last}
 use Rattle.vt_redraw.specs.Script.{after_last_glyph, attr_ops_in, is_at, move_ops, pen_at}
@@ -23,9 +23,9 @@ use Rattle.vt_redraw.specs.declared.form.Form.TheVariants.{Fixed, Portable}
 use Rattle.vt_redraw.specs.declared.pen.Pen.{Pen}
 use Rattle.vt_redraw.proofs.Cursor.{NearestIs, all_row, ends_in_blank, feed_draws, last_attrs, nearest_is}
 use Rattle.vt_redraw.proofs.Cursor.{off, over_blank_draws, saved_at, split_row}
-use Rattle.vt_redraw.proofs.Edits.{cursor_row_is, mid, row_of}
-use Rattle.vt_redraw.proofs.Flags.{ends_append, ends_is}
-use Rattle.vt_redraw.proofs.Halves.{Paired}
+use Rattle.vt_redraw.proofs.Edits.{cursor_row_is, mid, row_of, Reads, Within, at_pen, back_draws, changing_draws}
+use Rattle.vt_redraw.proofs.Edits.{going_draws}
+use Rattle.vt_redraw.proofs.Halves.{ends_append, ends_is, Paired}
 use Rattle.vt_redraw.proofs.Link.{erase_last, going_after_draws, print_bare}
 use Rattle.vt_redraw.proofs.Places.{going_there}
 use Rattle.vt_redraw.proofs.PortableLinks.{after_portably}
@@ -34,10 +34,9 @@ use Rattle.vt_redraw.proofs.PortableParts.{portably_both}
 use Rattle.vt_redraw.proofs.PortableRows.{bare_portably, erased_portably}
 use Rattle.vt_redraw.proofs.PortableSteps.{DrawsPortably, Keeps, Leaves, portable_then, portably_nothing}
 use Rattle.vt_redraw.proofs.PortableSteps.{portably_one, portably_then}
-use Rattle.vt_redraw.proofs.RangeDraws.{Any}
+use Rattle.vt_redraw.proofs.Ranges.{Any}
 use Rattle.vt_redraw.proofs.Rows.{PrintsRow, Stands}
-use Rattle.vt_redraw.proofs.Spaces.{space_prints}
-use Rattle.vt_redraw.proofs.Steps.{Reads, Within, at_pen, back_draws, changing_draws, going_draws}
+use Rattle.vt_redraw.proofs.Texts.{space_prints}
 
 -- ---- a pending wrap over a blank
 

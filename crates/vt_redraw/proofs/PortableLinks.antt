@@ -14,29 +14,25 @@ use Rattle.vt_rows.specs.Row.{RowValue}
 use Rattle.vt_grid.specs.Canvas.{Canvas, drawn_char}
 use Rattle.vt_grid.specs.Page.{cursor_row}
 use Rattle.vt_redraw.specs.Doubts.{Doubts, IsPlaced, Pending, Wrap, no_doubts, wrap_at}
-use Rattle.vt_redraw.specs.PortableOps.{IsPortableOp, canvas_after_print, doubts_after_text}
+use Rattle.vt_redraw.specs.Uses.{IsPortableOp, canvas_after_print, doubts_after_text, Graphic, IsBoundary, doubts_after}
+use Rattle.vt_redraw.specs.Uses.{may_print}
 use Rattle.vt_redraw.specs.Script.{Scripted, after_last_glyph, attr_ops_in, is_at, last_column, last_glyph, no_ops}
 use Rattle.vt_redraw.specs.Script.{pen_after}
 use Rattle.vt_redraw.specs.Script.{pen_at, placed_op, shifts, wrapped_after_glyph}
-use Rattle.vt_redraw.specs.Uses.{Graphic, IsBoundary, doubts_after, may_print}
 use Rattle.vt_redraw.specs.declared.form.Form.{Form}
 use Rattle.vt_redraw.specs.declared.form.Form.TheVariants.{Portable}
 use Rattle.vt_redraw.specs.declared.pen.Pen.{Pen}
-use Rattle.vt_redraw.proofs.Edits.{cursor_row_is, glyph_cells, mid, orphan, row_of, two, two_mid}
+use Rattle.vt_redraw.proofs.Edits.{cursor_row_is, glyph_cells, mid, orphan, row_of, two, two_mid, Spot, first_drawn}
+use Rattle.vt_redraw.proofs.Edits.{put, with_glyph, Reads, Within, back_draws, changing_draws}
 use Rattle.vt_redraw.proofs.Link.{last_cases, length_glyph, prints_last}
 use Rattle.vt_redraw.proofs.Places.{PrintsCells}
-use Rattle.vt_redraw.proofs.Flags.{Sound, ends, ends_is}
-use Rattle.vt_redraw.proofs.Halves.{Paired, opened_paired}
-use Rattle.vt_redraw.proofs.PortableGlyphs.{marks_join, printed}
+use Rattle.vt_redraw.proofs.Halves.{Sound, ends, ends_is, Paired, opened_paired}
+use Rattle.vt_redraw.proofs.PortableSteps.{marks_join, printed, AreJoined, erase_keeps, glyph_portable}
 use Rattle.vt_redraw.proofs.PortableParts.{Known, Portably, attrs_portably, erased_goes, exact_known, marks_wrap}
 use Rattle.vt_redraw.proofs.PortableParts.{doing_portably, glyph_portably, nothing_portably, placed_known}
 use Rattle.vt_redraw.proofs.PortableParts.{portably_both, some_columns}
 use Rattle.vt_redraw.proofs.PortableParts.{text_place}
-use Rattle.vt_redraw.proofs.PortableSteps.{AreJoined, erase_keeps, glyph_portable}
-use Rattle.vt_redraw.proofs.Printing.{first_wraps, grows_le, wider_spot}
-use Rattle.vt_redraw.proofs.Spots.{Spot, first_drawn, put, with_glyph}
-use Rattle.vt_redraw.proofs.Steps.{Reads, Within, back_draws, changing_draws}
-use Rattle.vt_redraw.proofs.Texts.{Prints}
+use Rattle.vt_redraw.proofs.Texts.{first_wraps, grows_le, wider_spot, Prints}
 
 -- ---- a glyph at a pending wrap
 

@@ -14,33 +14,28 @@ use Rattle.vt_cells.specs.Op.{Op, ChangeAttrs, ClearAttrs, EraseChars, EraseRest
 use Rattle.vt_cells.specs.declared.attrs.Intensity.{Intensity}
 use Rattle.vt_cells.specs.declared.attrs.Intensity.TheVariants.{Normal, Bold, Dim}
 use Rattle.unicode_width.specs.Width.{char_width}
-use Rattle.vt_cells.proofs.Encoding.{four_bytes, three_bytes, two_bytes}
-use Rattle.vt_cells.proofs.Glyphs.{encode_bounds}
+use Rattle.vt_cells.proofs.Glyphs.{four_bytes, three_bytes, two_bytes, encode_bounds}
 use Rattle.vt_rows.specs.Cells.{at, cells_after_cut, ends_blank}
 use Rattle.vt_rows.specs.Row.{RowValue}
 use Rattle.vt_grid.specs.Canvas.{Canvas}
 use Rattle.vt_grid.specs.Page.{Page, cursor_row}
-use Rattle.vt_grid.proofs.Drawing.{Draws}
+use Rattle.vt_grid.proofs.Texts.{Draws}
 use Rattle.vt_redraw.specs.Certain.{are_certain, is_certain, is_certain_narrow, is_certain_text}
 use Rattle.vt_redraw.specs.Doubts.{Doubts, IsPlaced, Wrap, NotPending, Pending, wrap_at}
-use Rattle.vt_redraw.specs.PortableOps.{PortableOps}
-use Rattle.vt_redraw.specs.PortableOps.{doubts_after_text}
+use Rattle.vt_redraw.specs.Uses.{PortableOps, doubts_after_text, Graphic, IsBoundary, doubts_after, may_print, piles_up}
 use Rattle.vt_redraw.specs.Script.{attr_ops_in, change_ops, erase_run, move_ops, pen_at, placed_op, shifts}
 use Rattle.vt_redraw.specs.Script.{swaps_intensity}
-use Rattle.vt_redraw.specs.Uses.{Graphic, IsBoundary, doubts_after, may_print, piles_up}
 use Rattle.vt_redraw.specs.declared.form.Form.{Form}
 use Rattle.vt_redraw.specs.declared.form.Form.TheVariants.{Fixed, Portable}
 use Rattle.vt_redraw.specs.declared.pen.Pen.{Pen}
-use Rattle.vt_redraw.proofs.Edits.{cursor_row_is, mid, row_of}
+use Rattle.vt_redraw.proofs.Edits.{cursor_row_is, mid, row_of, Spot, first_drawn, put, spot, Reads, Within, at_pen}
+use Rattle.vt_redraw.proofs.Edits.{changing_draws, going_draws}
 use Rattle.vt_redraw.proofs.Halves.{Loose, Paired}
 use Rattle.vt_redraw.proofs.Places.{at_after, drop_next, paired_start, rows_size}
-use Rattle.vt_redraw.proofs.PortableGlyphs.{glyph_at_spot, printed}
-use Rattle.vt_redraw.proofs.PortableSteps.{Keeps, Leaves, Places, change_keeps, leaves_then, move_places, moves_place}
-use Rattle.vt_redraw.proofs.PortableSteps.{erase_keeps, erase_rest_keeps, portable_then, reset_keeps}
-use Rattle.vt_redraw.proofs.Printing.{grows_le, mark_drawn, wider_spot}
-use Rattle.vt_redraw.proofs.Spots.{Spot, first_drawn, put, spot}
-use Rattle.vt_redraw.proofs.Steps.{Reads, Within, at_pen, changing_draws, going_draws}
-use Rattle.vt_redraw.proofs.Texts.{Grows, Prints, next}
+use Rattle.vt_redraw.proofs.PortableSteps.{glyph_at_spot, printed, Keeps, Leaves, Places, change_keeps, leaves_then}
+use Rattle.vt_redraw.proofs.PortableSteps.{move_places, moves_place, erase_keeps, erase_rest_keeps, portable_then}
+use Rattle.vt_redraw.proofs.PortableSteps.{reset_keeps}
+use Rattle.vt_redraw.proofs.Texts.{grows_le, mark_drawn, wider_spot, Grows, Prints, next}
 
 -- ---- what is known of the terminals after each part
 

@@ -12,7 +12,7 @@ use Rattle.vt_rows.specs.Cells.{at}
 use Rattle.vt_rows.specs.Row.{RowValue}
 use Rattle.vt_grid.specs.Canvas.{Canvas}
 use Rattle.vt_grid.specs.Page.{cursor_row}
-use Rattle.vt_grid.proofs.Drawing.{Draws, draws_then}
+use Rattle.vt_grid.proofs.Texts.{Draws, draws_then}
 use Rattle.vt_redraw.specs.Doubts.{IsPlaced}
 use Rattle.vt_redraw.specs.Redraw.{link_of, row_written, rows_below, rows_written}
 use Rattle.vt_redraw.specs.Script.{Scripted, attr_ops_in, break_ops, cells_written, erased_count}
@@ -21,22 +21,21 @@ use Rattle.vt_redraw.specs.Uses.{IsBoundary}
 use Rattle.vt_redraw.specs.declared.form.Form.{Form}
 use Rattle.vt_redraw.specs.declared.form.Form.TheVariants.{Portable}
 use Rattle.vt_redraw.specs.declared.pen.Pen.{Pen}
-use Rattle.vt_redraw.proofs.Edits.{cursor_row_is, glyph_cells, mid, row_of, two_mid}
-use Rattle.vt_redraw.proofs.Flags.{Sound}
-use Rattle.vt_redraw.proofs.Forms.{cells_form, link_form, row_form}
-use Rattle.vt_redraw.proofs.Halves.{Paired, opened_paired}
+use Rattle.vt_redraw.proofs.Edits.{cursor_row_is, glyph_cells, mid, row_of, two_mid, Reads, Within, at_pen}
+use Rattle.vt_redraw.proofs.Edits.{changing_draws}
+use Rattle.vt_redraw.proofs.Halves.{Sound, Paired, opened_paired}
+use Rattle.vt_redraw.proofs.Fitting.{cells_form, link_form, row_form}
 use Rattle.vt_redraw.proofs.Joining.{ready_start}
-use Rattle.vt_redraw.proofs.Link.{blanked, drop_whole, erase_last, last_cases, length_glyph, prints_last, row_draws}
+use Rattle.vt_redraw.proofs.Link.{blanked, erase_last, last_cases, length_glyph, prints_last}
+use Rattle.vt_redraw.proofs.Ranges.{drop_whole, row_draws, Any, any_row, lets_any}
 use Rattle.vt_redraw.proofs.Places.{Place, PrintsCells, Ready, going_there, shown}
 use Rattle.vt_redraw.proofs.PortableCells.{Written, cells_portably}
 use Rattle.vt_redraw.proofs.PortableParts.{Portably, at_behind, attrs_portably, erased_goes, glyph_portably}
 use Rattle.vt_redraw.proofs.PortableParts.{moves_portably}
 use Rattle.vt_redraw.proofs.PortableParts.{nothing_portably, portably_both, some_columns}
 use Rattle.vt_redraw.proofs.PortableSteps.{erase_keeps}
-use Rattle.vt_redraw.proofs.RangeDraws.{Any, any_row, lets_any}
 use Rattle.vt_redraw.proofs.Row.{cells_draw}
 use Rattle.vt_redraw.proofs.Rows.{PrintsRow, Stands, ends_unwrapped, fell, flags_end, link_same, step_joins}
-use Rattle.vt_redraw.proofs.Steps.{Reads, Within, at_pen, changing_draws}
 use Rattle.vt_redraw.proofs.Texts.{Prints}
 
 -- ---- the break

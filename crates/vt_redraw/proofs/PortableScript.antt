@@ -14,7 +14,7 @@ use Rattle.vt_grid.specs.Canvas.{Canvas, canvas_after_op}
 use Rattle.vt_grid.specs.Page.{IsPlainPage, Page, row_or}
 use Rattle.vt_redraw.specs.Doubts.{Doubts, IsPlaced, NotPending, Pending, Unsure, doubts_of, no_doubts}
 use Rattle.vt_redraw.specs.Picture.{IsPicture, Picture, SamePictureSize, picture_of}
-use Rattle.vt_redraw.specs.PortableOps.{IsPortableOp, PortableOps, doubts_after_op}
+use Rattle.vt_redraw.specs.Uses.{IsPortableOp, PortableOps, doubts_after_op}
 use Rattle.vt_redraw.specs.Redraw.{cursor_visibility_ops, cursor_written, difference_in, pen_of}
 use Rattle.vt_redraw.specs.Redraw.{blank_like, redraw_in, rows_written, script_in}
 use Rattle.vt_redraw.specs.Script.{attr_ops_in}
@@ -22,17 +22,16 @@ use Rattle.vt_redraw.specs.Steady.{IsSteady, IsSteadyCell}
 use Rattle.vt_redraw.specs.declared.form.Form.TheVariants.{Portable}
 use Rattle.vt_grid.specs.Moves.{moved}
 use Rattle.vt_grid.specs.declared.grid.moves.CursorMove.TheVariants.{To}
-use Rattle.vt_redraw.proofs.Clear.{cleared}
-use Rattle.vt_redraw.proofs.Redrawing.{blank_is, clear_canvas}
+use Rattle.vt_redraw.proofs.Redrawing.{cleared, blank_is, clear_canvas}
 use Rattle.vt_redraw.proofs.Difference.{any_rows, flags_end_of, hiding_draws, picture_prints, rows_stand}
-use Rattle.vt_redraw.proofs.Forms.{rows_form}
+use Rattle.vt_redraw.proofs.Fitting.{rows_form}
 use Rattle.vt_redraw.proofs.PortableCursor.{cursor_finishes}
 use Rattle.vt_redraw.proofs.PortableParts.{Known, placed_known}
 use Rattle.vt_redraw.proofs.PortableRows.{rows_portably}
 use Rattle.vt_redraw.proofs.PortableSteps.{Keeps, normal_apart, portable_then}
-use Rattle.vt_redraw.proofs.RangeDraws.{Any}
+use Rattle.vt_redraw.proofs.Ranges.{Any}
 use Rattle.vt_redraw.proofs.Rows.{rows_draw}
-use Rattle.vt_redraw.proofs.Steps.{Reads, Within, at_pen}
+use Rattle.vt_redraw.proofs.Edits.{Reads, Within, at_pen}
 use Rattle.vt_redraw.proofs.Touched.{some_same}
 
 script_portable : (self : Picture) (base : Canvas) (doubts : Doubts) → IsPicture self → IsSteady self →

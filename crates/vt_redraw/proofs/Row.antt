@@ -1,33 +1,184 @@
--- The operations of a row draw its cells over those that the terminal displays.
-use Rattle.std.proofs.Common.{◌≡◌, ℕ, zero, suc, ◌+◌, ◌<◌, ◌≤◌, ◌==◌, Bool, true, false, List, [], ◌∷◌, ◌++◌}
-use Rattle.std.proofs.Common.{length, take, drop, Some, refl, sym, ap, ◌∙◌, subst, append-nil, arith}
+-- The operations of a row draw its cells; a row that is displayed already needs none.
+use Rattle.std.proofs.Common.{◌≡◌, ℕ, zero, suc, ◌+◌, ◌<◌, ◌≤◌, ◌==◌, Bool, true, false, List, [], ◌∷◌, length, drop}
+use Rattle.std.proofs.Common.{refl, subst, arith, ◌≢◌, ◌⊎◌, ◌-◌, ◌&&◌, not, inl, inr, sym, ap, ◌∙◌, ◌++◌, take, Some}
+use Rattle.std.proofs.Common.{append-nil}
 use Rattle.std.proofs.lemmas.Bool.{cond_both}
 use Rattle.std.proofs.lemmas.Bool.Decides.{nat_tests}
 use Rattle.std.proofs.lemmas.List.{length-drop}
-use Rattle.vt_cells.specs.Cell.{CellValue, blank, glyph, right_half, same_cell}
-use Rattle.vt_cells.specs.Op.{Print}
+use Rattle.vt_cells.specs.Cell.{CellValue, blank, glyph, right_half, is_right_half, same_cell}
 use Rattle.vt_cells.specs.Attrs.{Attrs}
-use Rattle.vt_cells.proofs.SameCells.{cell_of-same}
-use Rattle.vt_rows.specs.Cells.{blanks, cells_after_cut}
+use Rattle.vt_cells.specs.Glyph.{glyph_columns}
+use Rattle.vt_cells.specs.Op.{Print}
+use Rattle.vt_cells.proofs.Cells.{cell_of-same, same_cell-itself}
+use Rattle.vt_rows.specs.Cells.{at, blanks, cells_after_cut}
 use Rattle.vt_rows.specs.Row.{RowValue}
 use Rattle.vt_grid.specs.Canvas.{Canvas}
-use Rattle.vt_cells.specs.Glyph.{glyph_columns}
-use Rattle.vt_redraw.specs.Script.{blank_run, erase_run, is_blank_of, pen_in, pen_past, shifts}
+use Rattle.vt_redraw.specs.Script.{blank_run, is_blank_of, no_ops, starts_other, cells_written, row_break, erase_run}
+use Rattle.vt_redraw.specs.Script.{pen_in, pen_past, shifts, Scripted, ops_then, placed_op, wrapped_after_erasure}
+use Rattle.vt_redraw.specs.Script.{wrapped_after_glyph}
 use Rattle.vt_redraw.specs.declared.pen.Pen.{Pen}
-use Rattle.vt_redraw.proofs.Steps.{Within}
-use Rattle.vt_redraw.proofs.Runs.{run_bound, run_blanks, blank_of_is}
-use Rattle.vt_redraw.specs.Script.{Scripted, cells_written, ops_then, placed_op, wrapped_after_erasure, wrapped_after_glyph}
-use Rattle.vt_redraw.proofs.Halves.{Paired, paired_append, paired_blanks, Loose}
-use Rattle.vt_redraw.proofs.Halves.{paired_loose, loose_step, loose_drop, opened_paired}
-use Rattle.vt_redraw.proofs.Flags.{Sound, sound_kept}
-use Rattle.vt_redraw.proofs.Edits.{mid, orphan}
-use Rattle.vt_redraw.proofs.Spots.{Spot, glyph_flag, with_glyph}
-use Rattle.vt_redraw.proofs.Touched.{in_to}
-use Rattle.vt_redraw.proofs.TouchedTexts.{print_in}
-use Rattle.vt_redraw.proofs.Lets.{Lets, lets_next, lets_drop, torn_may, run_may, narrow_may, wide_may}
+use Rattle.vt_redraw.specs.Redraw.{row_written}
+use Rattle.vt_redraw.specs.declared.form.Form.{Form}
+use Rattle.vt_redraw.proofs.Halves.{blank_of_is, Paired, run_bound, run_blanks, paired_append, paired_blanks, Loose}
+use Rattle.vt_redraw.proofs.Halves.{paired_loose, loose_step, loose_drop, opened_paired, Sound, sound_kept}
+use Rattle.vt_redraw.proofs.Touched.{MayGlyph, in_to, print_in}
+use Rattle.vt_redraw.proofs.Edits.{Within, mid, orphan, Spot, glyph_flag, with_glyph}
 use Rattle.vt_redraw.proofs.Places.{PrintsCells, Place, next_place, shown, Ready, ready_next, Wrote, second_left}
 use Rattle.vt_redraw.proofs.Places.{wrote_after, shifted, doing_draws, run_in, run_flagged}
-use Rattle.vt_redraw.specs.declared.form.Form.{Form}
+
+-- ==== The positions that a row may touch if it differs from the one that the terminal displays.
+
+-- `May` holds for all blanks of a row, and for all glyphs that the terminal does not display at their columns.
+abbrev pub Lets : (ℕ → ℕ → Type 0) → (r c : ℕ) → (xs ys : List CellValue) → Type 0
+Lets May r c [] ys = Unit {0}
+Lets May r c (x ∷ xs) [] = Unit {0}
+Lets May r c (blank a ∷ xs) (y ∷ ys) = May r c × Lets May r (c + 1) xs ys
+Lets May r c (glyph text wide a ∷ xs) (y ∷ ys) =
+    (same_cell (glyph text wide a) y ≡ false → May r c × (wide ≡ true → May r (c + 1))) × Lets May r (c + 1) xs ys
+Lets May r c (right_half ∷ xs) (y ∷ ys) = Lets May r (c + 1) xs ys
+
+pub lets_next : (May : ℕ → ℕ → Type 0) (r c : ℕ) (x y : CellValue) (xs ys : List CellValue) →
+    Lets May r c (x ∷ xs) (y ∷ ys) → Lets May r (c + 1) xs ys
+lets_next May r c (blank a) y xs ys h = h.1
+lets_next May r c (glyph text wide a) y xs ys h = h.1
+lets_next May r c right_half y xs ys h = h
+
+pub lets_drop : (May : ℕ → ℕ → Type 0) (n r c to : ℕ) (xs ys : List CellValue) →
+    c + n ≡ to → Lets May r c xs ys → Lets May r to (drop n xs) (drop n ys)
+lets_drop May zero r c to xs ys e h = let f : c ≡ to = omega arith in subst (λ (k : ℕ). Lets May r k xs ys) f h
+lets_drop May (suc n) r c to [] ys e h = nothing (drop (suc n) ys)
+  where
+    nothing : (zs : List CellValue) → Lets May r to [] zs
+    nothing zs = tt
+lets_drop May (suc n) r c to (x ∷ xs) [] e h = nothing (drop n xs)
+  where
+    nothing : (zs : List CellValue) → Lets May r to zs []
+    nothing [] = tt
+    nothing (z ∷ zs) = tt
+lets_drop May (suc n) r c to (x ∷ xs) (y ∷ ys) e h =
+    lets_drop May n r (c + 1) to xs ys (omega arith) (lets_next May r c x y xs ys h)
+
+differs_from_right : (text : List ℕ) (wide : Bool) (a : Attrs) (y : CellValue) →
+    is_right_half y ≡ true → same_cell (glyph text wide a) y ≡ false
+unfolding same_cell
+differs_from_right text wide a (blank b) h = absurd (cc)
+differs_from_right text wide a (glyph other w b) h = absurd (cc)
+differs_from_right text wide a right_half h = refl
+
+-- `May` holds for the column of an orphaned continuation cell if the row has the first column of a cell there.
+pub torn_may : (May : ℕ → ℕ → Type 0) (r c : ℕ) (xs ys : List CellValue) → Paired xs → Lets May r c xs ys →
+    length xs ≤ length ys → Paired (drop (length xs) ys) → is_right_half (at ys 0) ≡ true → May r c
+torn_may May r c [] [] p h le tail t = absurd (cc)
+torn_may May r c [] (blank a ∷ ys) p h le tail t = absurd (cc)
+torn_may May r c [] (glyph text wide a ∷ ys) p h le tail t = absurd (cc)
+torn_may May r c [] (right_half ∷ ys) p h le tail t = absurd tail
+torn_may May r c (x ∷ xs) [] p h le tail t = absurd (omega arith)
+torn_may May r c (blank a ∷ xs) (y ∷ ys) p h le tail t = h.0
+torn_may May r c (glyph text wide a ∷ xs) (y ∷ ys) p h le tail t =
+    let m = h.0 (differs_from_right text wide a y t) in m.0
+torn_may May r c (right_half ∷ xs) (y ∷ ys) p h le tail t = absurd p
+
+-- If a row may be drawn, `May` holds for all columns of a run of blanks.
+pub run_may : (May : ℕ → ℕ → Type 0) (r c : ℕ) (a : Attrs) (xs ys : List CellValue) (k : ℕ) →
+    Lets May r c xs ys → length xs ≤ length ys → c ≤ k → k < c + blank_run a xs → May r k
+run_may May r c a [] ys k h le low high = absurd (omega arith)
+run_may May r c a (x ∷ xs) [] k h le low high = absurd (omega arith)
+run_may May r c a (x ∷ xs) (y ∷ ys) k h le low high =
+    cond_both (is_blank_of a x) (1 + blank_run a xs) 0 (λ (n : ℕ). k < c + n → May r k)
+    (λ (t : is_blank_of a x ≡ true) (lt : k < c + (1 + blank_run a xs)).
+    by_test (k == c) refl (subst (λ (z : CellValue). Lets May r c (z ∷ xs) (y ∷ ys)) (blank_of_is a x t) h)
+    (λ l m. run_may May r (c + 1) a xs ys k m (omega arith) l (omega arith)))
+    (λ _ lt. absurd (omega arith)) high
+  where
+    by_test : (b : Bool) → (k == c) ≡ b → May r c × Lets May r (c + 1) xs ys →
+        (c + 1 ≤ k → Lets May r (c + 1) xs ys → May r k) → May r k
+    by_test true t m rest = let e : c ≡ k = grind (arith, nat_tests) in subst (May r) e m.0
+    by_test false t m rest = let l : c + 1 ≤ k = grind (arith, nat_tests) in rest l m.1
+
+-- If a row may be drawn, `May` holds for all positions that a differing narrow glyph touches.
+pub narrow_may : (May : ℕ → ℕ → Type 0) (r c : ℕ) (text : List ℕ) (a : Attrs) (y : CellValue) (xs ys : List CellValue) →
+    same_cell (glyph text false a) y ≡ false → Lets May r c (glyph text false a ∷ xs) (y ∷ ys) →
+    Paired xs → length xs ≤ length ys → Paired (drop (length xs) ys) → MayGlyph May r c false ys
+narrow_may May r c text a y xs ys f h p le tail =
+    let m = h.0 f in
+    record { first = m.0; second = λ t. absurd (cc); torn = λ t. torn_may May r (c + 1) xs ys p h.1 le tail t }
+
+pub wide_may : (May : ℕ → ℕ → Type 0) (r c : ℕ) (text : List ℕ)
+    (a : Attrs) (y y2 : CellValue) (xs ys : List CellValue) →
+    same_cell (glyph text true a) y ≡ false → Lets May r c (glyph text true a ∷ right_half ∷ xs) (y ∷ y2 ∷ ys) →
+    Paired xs → length xs ≤ length ys → Paired (drop (length xs) ys) → MayGlyph May r c true (y2 ∷ ys)
+wide_may May r c text a y y2 xs ys f h p le tail =
+    let m = h.0 f in
+    let e : c + 1 + 1 ≡ c + 2 = omega arith in
+    record { first = m.0; second = m.1; torn = λ t. subst (May r) e (torn_may May r (c + 1 + 1) xs ys p h.1 le tail t) }
+
+-- ==== A row that the terminal displays already needs no output. Equality of rows is decidable.
+
+pub cells_nothing : (r c k : ℕ) (pen : Pen) (flag : Bool) (xs : List CellValue) →
+    cells_written r c pen flag k xs xs ≡ no_ops pen flag
+unfolding cells_written
+cells_nothing r c zero pen flag [] = refl
+cells_nothing r c (suc k) pen flag [] = refl
+cells_nothing r c (suc k) pen flag (x ∷ xs) = cells_nothing r (c + 1) k pen flag xs
+cells_nothing r c zero pen flag (blank a ∷ xs) = rw (same_cell-itself (blank a)) (cells_nothing r (c + 1) 0 pen flag xs)
+cells_nothing r c zero pen flag (glyph text wide a ∷ xs) =
+    rw (same_cell-itself (glyph text wide a)) (cells_nothing r (c + 1) (glyph_columns wide - 1) pen flag xs)
+cells_nothing r c zero pen flag (right_half ∷ xs) = cells_nothing r (c + 1) 0 pen flag xs
+
+pub row_nothing : (r k : ℕ) (pen : Pen) (x : RowValue) → row_written r k pen x.wrapped x x.cells ≡ no_ops pen x.wrapped
+unfolding row_written row_break
+row_nothing r k pen x =
+    let t : (x.wrapped && not x.wrapped) ≡ false = grind (arith) in
+    rw (cells_nothing r 0 k pen x.wrapped x.cells, t) refl
+
+cell_equal : (x y : CellValue) → (x ≡ y) ⊎ (x ≢ y)
+cell_equal x y = by_test (same_cell x y) refl where
+  by_test : (b : Bool) → same_cell x y ≡ b → (x ≡ y) ⊎ (x ≢ y)
+  by_test true t = inl (cell_of-same x y t)
+  by_test false t = inr (λ e. let s = ap (same_cell x) (sym e) ∙ same_cell-itself x in cc)
+
+-- The first cell of a list, or the given default.
+abbrev head_or : CellValue → List CellValue → CellValue
+head_or d [] = d
+head_or d (x ∷ xs) = x
+
+abbrev tail_of : List CellValue → List CellValue
+tail_of [] = []
+tail_of (x ∷ xs) = xs
+
+cells_equal : (xs ys : List CellValue) → (xs ≡ ys) ⊎ (xs ≢ ys)
+cells_equal [] [] = inl refl
+cells_equal [] (y ∷ ys) = inr (λ e. cc)
+cells_equal (x ∷ xs) [] = inr (λ e. cc)
+cells_equal (x ∷ xs) (y ∷ ys) = elim (cell_equal x y) [
+  | inl e ↦ elim (cells_equal xs ys) [
+    | inl f ↦ inl (ap (λ (z : CellValue). z ∷ xs) e ∙ ap (λ (zs : List CellValue). y ∷ zs) f)
+    | inr ne ↦ inr (λ h. ne (ap tail_of h))
+  ]
+  | inr ne ↦ inr (λ h. ne (ap (head_or x) h))
+]
+
+bool_equal : (a b : Bool) → (a ≡ b) ⊎ (a ≢ b)
+bool_equal true true = inl refl
+bool_equal true false = inr (λ e. cc)
+bool_equal false true = inr (λ e. cc)
+bool_equal false false = inl refl
+
+pub row_equal : (x y : RowValue) → (x ≡ y) ⊎ (x ≢ y)
+row_equal x y = elim (cells_equal x.cells y.cells) [
+  | inl e ↦ elim (bool_equal x.wrapped y.wrapped) [
+    | inl f ↦
+        inl (ap (λ (z : List CellValue). record x { cells = z }) e ∙ ap (λ (b : Bool). record y { wrapped = b }) f)
+    | inr ne ↦ inr (λ h. ne (ap (λ (z : RowValue). z.wrapped) h))
+  ]
+  | inr ne ↦ inr (λ h. ne (ap (λ (z : RowValue). z.cells) h))
+]
+
+pub starts_none : (xs : List CellValue) → starts_other xs xs ≡ false
+starts_none [] = refl
+starts_none (x ∷ xs) = let t = same_cell-itself x in grind (arith, t)
+
+-- ==== The operations of a row draw its cells over those that the terminal displays.
 
 pub run_paired : (a : Attrs) (xs : List CellValue) → Paired xs → Paired (drop (blank_run a xs) xs)
 run_paired a [] h = tt

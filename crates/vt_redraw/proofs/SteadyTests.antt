@@ -18,8 +18,7 @@ use Rattle.vt_cells.specs.Cell.{CellValue, blank, glyph, right_half, is_blank, i
 use Rattle.vt_cells.specs.Cell.{attrs_of, default_blank, cell_with_mark, IsCell}
 use Rattle.vt_cells.specs.Glyph.{columns_of, glyph_columns, has_room, is_selector, is_wide_text, IsGlyphText}
 use Rattle.vt_cells.specs.Glyph.{IsMark, Joins}
-use Rattle.vt_cells.proofs.Widths.{columns_of-le}
-use Rattle.vt_cells.proofs.Glyphs.{IsGlyphText-chars, IsGlyphText-length, encode_bounds}
+use Rattle.vt_cells.proofs.Glyphs.{columns_of-le, IsGlyphText-chars, IsGlyphText-length, encode_bounds}
 use Rattle.vt_cells.proofs.Glyphs.{selector_columns}
 use Rattle.vt_rows.specs.Cells.{IsPaired, at, cells_after_resize}
 use Rattle.vt_rows.specs.Row.{RowValue}

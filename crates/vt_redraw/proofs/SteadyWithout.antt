@@ -22,9 +22,8 @@ use Rattle.vt_grid.specs.Canvas.{Canvas, and_then, drawn_text, drawn_all}
 use Rattle.vt_cells.specs.Glyph.{glyph_columns}
 use Rattle.vt_redraw.specs.Steady.{blank_line, has_selector, HasNoSelector, heart_text}
 use Rattle.vt_redraw.specs.Steady.{IsSteady, IsSteadyCell, IsSteadyGlyph}
-use Rattle.vt_redraw.proofs.Spots.{Spot, glyph_put_here}
-use Rattle.vt_redraw.proofs.Texts.{next, Grows, Prints}
-use Rattle.vt_redraw.proofs.Printing.{print_draws}
+use Rattle.vt_redraw.proofs.Edits.{Spot, glyph_put_here}
+use Rattle.vt_redraw.proofs.Texts.{next, Grows, Prints, print_draws}
 
 and_then_nothing : (x : Option Canvas) → and_then (drawn_all []) x ≡ x
 and_then_nothing None = refl

@@ -14,25 +14,20 @@ use Rattle.vt_grid.specs.Canvas.{Canvas}
 use Rattle.vt_cells.specs.Glyph.{glyph_columns}
 use Rattle.vt_redraw.specs.Script.{pen_at, attr_ops}
 use Rattle.vt_redraw.specs.declared.pen.Pen.{Pen}
-use Rattle.vt_grid.proofs.Drawing.{Draws}
-use Rattle.vt_redraw.proofs.Steps.{Reads, Within, changing_draws}
+use Rattle.vt_grid.proofs.Texts.{Draws}
+use Rattle.vt_redraw.proofs.Edits.{Reads, Within, changing_draws, row_of, mid, two, two_mid, orphan, Spot, with_glyph}
 use Rattle.vt_redraw.specs.Script.{Linked, Scripted, is_nil, ops_then, wrapped_after_glyph}
 use Rattle.vt_redraw.specs.Script.{after_last_glyph, cells_written, first_written, row_break}
 use Rattle.vt_redraw.specs.Items.{range_written, with_range, is_whole, marked_on, item_of_difference, linked_item}
-use Rattle.vt_redraw.proofs.Halves.{Paired, paired_loose, paired_blanks, loose_step, opened_paired}
-use Rattle.vt_redraw.proofs.Flags.{ends, Sound}
-use Rattle.vt_redraw.proofs.Edits.{row_of, mid, two, two_mid, orphan}
-use Rattle.vt_redraw.proofs.Spots.{Spot, with_glyph}
-use Rattle.vt_redraw.proofs.Spaces.{space_prints}
-use Rattle.vt_redraw.proofs.Texts.{Prints}
-use Rattle.vt_redraw.proofs.Touched.{DrawsIn, in_then, in_to, quiet_in, changing_quiet}
-use Rattle.vt_redraw.proofs.TouchedTexts.{print_in}
+use Rattle.vt_redraw.proofs.Halves.{Paired, paired_loose, paired_blanks, loose_step, opened_paired, ends, Sound}
+use Rattle.vt_redraw.proofs.Texts.{space_prints, Prints}
+use Rattle.vt_redraw.proofs.Touched.{DrawsIn, in_then, in_to, quiet_in, changing_quiet, print_in}
 use Rattle.vt_redraw.proofs.Places.{PrintsCells, Place, shown, Ready, Wrote}
 use Rattle.vt_redraw.proofs.Row.{cells_draw}
-use Rattle.vt_redraw.proofs.Link.{broken_draws, going_after_draws, no_tail}
+use Rattle.vt_redraw.proofs.Link.{broken_draws, going_after_draws}
+use Rattle.vt_redraw.proofs.Ranges.{no_tail, Any, IsItem, range_draws, lets_any}
 use Rattle.vt_redraw.proofs.Joining.{first_blank, first_draws, first_sound, glyph_sound}
 use Rattle.vt_redraw.proofs.Rows.{Stands}
-use Rattle.vt_redraw.proofs.RangeDraws.{Any, IsItem, range_draws, lets_any}
 use Rattle.vt_redraw.specs.declared.form.Form.TheVariants.{Fixed}
 
 -- ---- items of a difference

@@ -1,31 +1,35 @@
--- How the code represents pictures, and the intermediate states while output is written; only for models, contracts
--- of private functions and proofs.
-use Rattle.std.specs.Prelude.{◌≡◌, ℕ, ◌+◌, ◌-◌, ◌<◌, ◌≤◌, ◌^◌, ◌==◌, ◌&&◌, ◌||◌, nat_lt, not, Bool, false, true}
-use Rattle.std.specs.Prelude.{List, [], ◌++◌, length, replicate, drop, All, if◌then◌else◌, Result, OnOk, IfOk}
+-- How the code represents pictures, and the intermediate states while output is written; only for models, contracts of
+-- private functions and proofs.
+use Rattle.std.specs.Prelude.{◌≡◌, ℕ, ◌+◌, ◌-◌, ◌<◌, ◌≤◌, ◌^◌, ◌==◌, ◌&&◌, ◌||◌, nat_lt, not, Bool, false, true, List}
+use Rattle.std.specs.Prelude.{[], ◌++◌, length, replicate, drop, All, if◌then◌else◌, Result, OnOk, IfOk, ◌∷◌}
+use Rattle.std.specs.List.{AllByRecursion}
 use Rattle.vt_cells.specs.Attrs.{Attrs, default_attrs}
-use Rattle.vt_cells.specs.Cell.{CellValue, blank, default_blank, is_blank, is_wide, is_right_half, attrs_of}
-use Rattle.vt_cells.specs.Cell.{same_cell, text_of, IsCell}
-use Rattle.vt_cells.specs.CellInternals.{head_of_cell}
+use Rattle.vt_cells.specs.Cell.{CellValue, blank, default_blank, is_blank, is_wide, is_right_half, attrs_of, same_cell}
+use Rattle.vt_cells.specs.Cell.{text_of, IsCell}
+use Rattle.vt_cells.specs.Internals.{head_of_cell, buffered_text}
 use Rattle.vt_cells.specs.Glyph.{glyph_columns}
 use Rattle.vt_cells.specs.Op.{Op, Print, bytes_of_all}
-use Rattle.vt_cells.specs.BufferInternals.{buffered_text}
 use Rattle.vt_cells.specs.declared.pos.Pos.{Pos}
 use Rattle.vt_rows.specs.Cells.{IsPaired, at, ends_blank, cells_after_resize}
 use Rattle.vt_rows.specs.Row.{RowValue, IsRow, blank_row}
 use Rattle.vt_grid.specs.Scrollback.{Scrollback, IsScrollback, visible}
+use Rattle.vt_grid.specs.Page.{row_or, Page}
 use Rattle.vt_redraw.specs.Picture.{Picture, cut_rows}
 use Rattle.vt_redraw.specs.Items.{with_whole_start, with_whole_start_over}
 use Rattle.vt_redraw.specs.Refusals.{RefusedOnlyIfSome}
-use Rattle.vt_redraw.specs.Script.{Linked, Scripted, after_last_glyph, cells_written, row_break}
-use Rattle.vt_redraw.specs.Script.{erase_run, placed_op}
+use Rattle.vt_redraw.specs.Script.{Linked, Scripted, after_last_glyph, cells_written, row_break, erase_run, placed_op}
 use Rattle.vt_redraw.specs.Redraw.{row_written, rows_below}
 use Rattle.vt_redraw.specs.Moved.{rows_moved}
 use Rattle.vt_redraw.specs.Steady.{IsSteadyCell}
-use Rattle.vt_grid.specs.Page.{row_or}
 use Rattle.vt_redraw.specs.declared.links.Link.{Link}
 use Rattle.vt_redraw.specs.declared.pen.Pen.{Pen}
 use Rattle.vt_redraw.specs.declared.view.Source.{Source}
 use Rattle.vt_redraw.specs.declared.view.Source.TheVariants.{InView, Blank, Moved}
+use Rattle.vt_redraw.specs.Shifted.{IsRowShift, IsShifting, shifted_pages, shifts_text}
+use Rattle.vt_redraw.specs.declared.row_shift.RowShift.{RowShift}
+
+-- ==== How the code represents pictures, and the intermediate states while output is written; only for models,
+-- contracts of private functions and proofs.
 
 -- A row's stored cells, extended to the given number of columns with copies of the given cell.
 abbrev pub cells_filled_to : List CellValue → ℕ → CellValue → List CellValue
@@ -282,3 +286,20 @@ pub record IsWithin (bound : ℕ) (cell : CellValue) : Type 0 where
 -- Every glyph of the row is steady on a screen of the given width.
 abbrev pub IsSteadyRow : ℕ → RowValue → Type 0
 IsSteadyRow width row = All (IsSteadyCell width) row.cells
+
+-- ==== The intermediate states while output that shifts columns is written; only for contracts of private functions and
+-- proofs.
+
+-- `text` is `start` followed by the sequences of one or more shifts, of which `shift` is the first. These shifts turn
+-- the page `before` into the page `after`.
+pub record Shifts (shift : RowShift) (start text : List ℕ) (before after : Page) : Type 0 where
+  pub rest : List RowShift
+  pub inside : AllByRecursion (IsRowShift (length before.rows) before.width) (shift ∷ rest)
+  pub bytes : text ≡ start ++ shifts_text (shift ∷ rest)
+  pub page : after ≡ shifted_pages (shift ∷ rest) before
+
+-- `text` is `start` followed by a diff from `prev` to `self` that first makes one or more column shifts.
+pub record AppendsShifting (start text : List ℕ) (self prev : Picture) : Type 0 where
+  pub added : List ℕ
+  pub bytes : text ≡ start ++ added
+  pub shifts : IsShifting self prev added

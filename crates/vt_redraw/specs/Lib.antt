@@ -1,18 +1,18 @@
-pub mod Fits
+-- Pictures and their output
 pub mod Picture
-pub mod Steady
 pub mod Script
 pub mod Redraw
-pub mod Limited
-pub mod Refusals
-pub mod Touching
-pub mod Locality
 pub mod Items
+pub mod Steady
+pub mod Locality
 pub mod Moved
 pub mod Shifted
-pub mod ShiftInternals
-pub mod Internals
+pub mod Limited
+pub mod Refusals
+-- Portable output
 pub mod Certain
 pub mod Doubts
 pub mod Uses
-pub mod PortableOps
+-- For models, private contracts and proofs only
+pub mod Fits
+pub mod Internals

@@ -3,7 +3,7 @@ use Rattle.std.specs.Prelude.{◌≡◌, ◌≤◌, ◌+◌, ◌++◌, ℕ, Bool
 use Rattle.std.specs.Prelude.{if◌then◌else◌}
 use Rattle.vt_cells.specs.Attrs.{Attrs, default_attrs, same_attrs}
 use Rattle.vt_cells.specs.Cell.{CellValue, IsCell, blank, glyph, right_half, attrs_of, text_of}
-use Rattle.vt_cells.specs.CellInternals.{head_of_cell}
+use Rattle.vt_cells.specs.Internals.{head_of_cell}
 use Rattle.vt_rows.specs.Row.{RowValue}
 
 -- What a writer with a limit did to a string that was `before` and is now `after`. If `is_whole` is true, it appended

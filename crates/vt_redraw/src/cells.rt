@@ -5,7 +5,7 @@
 //! `flag` is true if the terminal's row is wrapped.
 
 ghost use Rattle.std.specs.Prelude.{◌≡◌, ◌++◌, ◌+◌, ◌<◌, ◌≤◌, ℕ, List, true, false, IsTrue, OnOk, drop, length};
-ghost use Rattle.vt_cells.specs.BufferInternals.{buffered_text};
+ghost use Rattle.vt_cells.specs.Internals.{buffered_text};
 ghost use Rattle.vt_cells.specs.Cell.{attrs_of, is_blank, is_glyph, is_wide, text_of};
 ghost use Rattle.vt_cells.specs.Op.{bytes_of, bytes_of_all};
 ghost use Rattle.vt_rows.specs.Cells.{at};
@@ -468,7 +468,7 @@ pub fn write_cells<S: Sink>(
 
 /// Writes the output that makes the terminal's row `over` display `cells`, starting at `pos`.
 /// Consecutive glyphs are buffered and written together.
-#[tactic(auto, using(vt_cells::proofs::Buffers::nothing_gathered))]
+#[tactic(auto, using(vt_cells::proofs::Sinks::nothing_gathered))]
 fn write_others<S: Sink>(
     sink: &mut S,
     pen: &mut Pen,

@@ -20,14 +20,13 @@ ghost use Rattle.vt_grid.specs.Page.{IsPlainPage, row_at};
 ghost use Rattle.vt_redraw.specs.Items.{AwaitsItem, CutsNone, changed_row, formatted_row, going_on};
 ghost use Rattle.vt_redraw.specs.Items.{item_of_difference, item_of_redraw, row_drawn};
 ghost use Rattle.vt_redraw.specs.Doubts.{Doubts, doubts_of};
-ghost use Rattle.vt_redraw.specs.Locality.{IsLocal, MayPlace, row_of_picture};
+ghost use Rattle.vt_redraw.specs.Locality.{IsLocal, MayPlace, row_of_picture, Touches};
 ghost use Rattle.vt_redraw.specs.Picture.{IsColoredPicture, IsPicture, Picture, SamePictureSize, Saved};
 ghost use Rattle.vt_redraw.specs.Picture.{picture_of, with_cursor_of, with_picture, with_saved};
-ghost use Rattle.vt_redraw.specs.PortableOps.{PortableOps};
+ghost use Rattle.vt_redraw.specs.Uses.{PortableOps};
 ghost use Rattle.vt_redraw.specs.Redraw.{cursor_state, difference, difference_in, differences, last_picture};
 ghost use Rattle.vt_redraw.specs.Redraw.{redraw, redraw_in};
 ghost use Rattle.vt_redraw.specs.Steady.{HasNoSelector, IsOfSize, IsSteady, IsSteadyCell, heart_text};
-ghost use Rattle.vt_redraw.specs.Touching.{Touches};
 ghost use Rattle.vt_redraw.specs.declared.form.Form.TheVariants.{Portable};
 
 /// States that drawing the diff between two pictures on a plain canvas that displays the first

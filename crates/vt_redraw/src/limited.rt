@@ -3,7 +3,7 @@
 
 ghost use Rattle.std.specs.Prelude.{◌≡◌, ◌<◌, ◌≤◌, ◌+◌, ◌-◌, ◌∷◌, List, None, IfOk, IsTrue, length, string_bytes};
 ghost use Rattle.vt_cells.specs.Cell.{CellValue, IsCell};
-ghost use Rattle.vt_cells.specs.CellInternals.{head_of_cell};
+ghost use Rattle.vt_cells.specs.Internals.{head_of_cell};
 ghost use Rattle.vt_cells.specs.Op.{bytes_of_all};
 ghost use Rattle.vt_cells.specs.Refusals.{OnlyOutOfMemory};
 ghost use Rattle.vt_rows.specs.Cells.{at};

@@ -222,7 +222,7 @@ pub fn write_change<S: Sink>(sink: &mut S, was: Attrs, new: Attrs) -> Result<(),
 ///
 /// Returns the sink's error. Part of the output may have been written by then.
 #[inline(never)]
-#[tactic(auto, unfolding(vt_cells::specs::BufferInternals::buffered_text))]
+#[tactic(auto, unfolding(vt_cells::specs::Internals::buffered_text))]
 pub fn write_change_in<S: Sink>(
     sink: &mut S,
     form: Form,

@@ -2,7 +2,7 @@
 //! them to a page.
 
 ghost use Rattle.std.specs.Prelude.{◌≡◌, ◌++◌, OnOk, length};
-ghost use Rattle.vt_redraw.specs.ShiftInternals.{Shifts};
+ghost use Rattle.vt_redraw.specs.Internals.{Shifts};
 ghost use Rattle.vt_redraw.specs.Picture.{SamePictureSize};
 ghost use Rattle.vt_redraw.specs.Shifted.{IsRowShift, shift_text, shifted_page};
 

@@ -16,7 +16,7 @@ use Rattle.vt_rows.specs.Internals.{rows_after}
 use Rattle.vt_rows.specs.Pieces.{Piece, piece_end, texts_of}
 use Rattle.vt_rows.specs.Stretches.{ends_within, columns_in}
 use Rattle.vt_rows.proofs.CaptureRows.{beyond_outside, line_end}
-use Rattle.vt_rows.proofs.Outside.{Place, StandsAt, place, stands_later}
+use Rattle.vt_rows.proofs.Pieces.{Place, StandsAt, place, stands_later}
 
 test : {P : Type 0} (b : Bool) → (b ≡ true → P) → (b ≡ false → P) → P
 test true yes_so not_so = yes_so refl

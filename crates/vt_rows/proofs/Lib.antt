@@ -1,21 +1,14 @@
-pub mod Columns
-pub mod Pairs
-pub mod Sound
-pub mod Rows
+-- Edits of a row
+pub mod Edits
 pub mod Steps
-pub mod Texts
-pub mod WideTexts
 pub mod Moves
 pub mod ShiftSteps
-pub mod Trims
-pub mod Folds
-pub mod PlainTexts
-pub mod BasicTexts
-pub mod Examples
+pub mod Rows
+pub mod Texts
+-- Texts of rows, and captures
+pub mod RowTexts
 pub mod Pieces
 pub mod CaptureRows
-pub mod Outside
-pub mod OnePieces
 pub mod CutRows
-pub mod CaptureExamples
-pub mod Copying
+-- Examples
+pub mod Examples

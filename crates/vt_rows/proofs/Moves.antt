@@ -12,7 +12,7 @@ use Rattle.vt_cells.specs.Cell.{is_wide, is_right_half, attrs_of, IsCell}
 use Rattle.vt_rows.specs.Cells.{at, IsPaired, ends_blank, cells_after_move, moved_at, cells_after_insert, cells_after_delete}
 use Rattle.vt_rows.specs.Cells.{cells_after_resize, insert_source, delete_source, insert_column}
 use Rattle.vt_rows.specs.Row.{RowValue, IsRow, inserted_row, deleted_row, resized_row}
-use Rattle.vt_rows.proofs.Columns.{at-past}
+use Rattle.vt_rows.proofs.Edits.{at-past}
 
 pub length-moved : (n : ℕ) (source : ℕ → ℕ) (cells : List CellValue) → length (cells_after_move n source cells) ≡ n
 unfolding cells_after_move

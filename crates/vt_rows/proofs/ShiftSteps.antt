@@ -12,8 +12,7 @@ use Rattle.vt_cells.specs.Cell.{CellValue, blank, glyph, right_half, default_bla
 use Rattle.vt_rows.specs.Cells.{at, IsPaired, blanks, cells_after_move, moved_at, cells_after_insert, cells_after_delete}
 use Rattle.vt_rows.specs.Cells.{cells_after_resize, insert_source, delete_source, insert_column}
 use Rattle.vt_rows.specs.Internals.{left_blanked, right_replaced, end_blanked}
-use Rattle.vt_rows.proofs.Columns.{at-past, at-blanks}
-use Rattle.vt_rows.proofs.Pairs.{not_both, wide_mended}
+use Rattle.vt_rows.proofs.Edits.{at-past, at-blanks, not_both, wide_mended}
 use Rattle.vt_rows.proofs.Steps.{HasRoom-paired, at-set, at-put_mid, length-put_mid}
 use Rattle.vt_rows.proofs.Steps.{at-left_blanked, at-right_replaced, HasRoom-left_blanked}
 use Rattle.vt_rows.proofs.Moves.{moved_is}

@@ -12,8 +12,7 @@ use Rattle.vt_cells.specs.Cell.{CellValue, blank, glyph, right_half, default_bla
 use Rattle.vt_cells.specs.Cell.{is_wide, is_right_half, attrs_of, text_of}
 use Rattle.vt_rows.specs.Cells.{at, IsPaired, put_cells, column_of}
 use Rattle.vt_rows.specs.Internals.{left_blanked, right_replaced, HasRoom}
-use Rattle.vt_rows.proofs.Columns.{put_columns, length-put_cells, same_columns, at-past}
-use Rattle.vt_rows.proofs.Pairs.{wide_mended}
+use Rattle.vt_rows.proofs.Edits.{put_columns, length-put_cells, same_columns, at-past, wide_mended}
 
 pub at-set : (xs : List CellValue) (i k : ℕ) (v : CellValue) →
     i < length xs → at (slice_set xs i v) k ≡ (if k == i then v else at xs k)

@@ -5,7 +5,7 @@ use Rattle.std.specs.Prelude.{length, drop, flat_map, slice_set, chars, encode_u
 use Rattle.vt_cells.specs.Attrs.{Attrs}
 use Rattle.vt_cells.specs.Cell.{CellValue, blank, is_wide, is_right_half, attrs_of}
 use Rattle.vt_cells.specs.Op.{change_text}
-use Rattle.vt_cells.specs.BufferInternals.{buffered_text}
+use Rattle.vt_cells.specs.Internals.{buffered_text}
 use Rattle.vt_rows.specs.Basic.{attrs_after, shown_text}
 use Rattle.vt_rows.specs.CaptureRows.{ends_row, overflows}
 use Rattle.vt_rows.specs.Cells.{at}

@@ -13,8 +13,8 @@ ghost use Rattle.vt_cells.specs.Glyph.{columns_of};
 ghost use Rattle.vt_rows.specs.Cells.{IsPaired, at, blanks, ends_blank, cells_after_erase, marked_at};
 ghost use Rattle.vt_rows.specs.Cells.{narrowed_at, put_narrow, put_wide, widened_at};
 ghost use Rattle.vt_rows.specs.Internals.{HasRoom, left_blanked, right_replaced};
-ghost use Rattle.vt_rows.specs.Texts.{IsNarrowText, IsPrintableAscii, glyphs_of, put_text};
-ghost use Rattle.vt_rows.specs.WideTexts.{IsWideText, put_wide_text, wide_glyphs_of};
+ghost use Rattle.vt_rows.specs.Texts.{IsNarrowText, IsPrintableAscii, glyphs_of, put_text, IsWideText, put_wide_text};
+ghost use Rattle.vt_rows.specs.Texts.{wide_glyphs_of};
 
 use std::mem;
 use vt_cells::{Attrs, Cell, cell};

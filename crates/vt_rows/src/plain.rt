@@ -25,7 +25,7 @@ const LONGEST: usize = 29;
 ///
 /// Returns the sink's error. Part of the text may have been written by then. The call never fails
 /// if the text is empty.
-#[tactic(auto, unfolding(crate::specs::Plain::plain_text), using(crate::proofs::PlainTexts::plain_rows))]
+#[tactic(auto, unfolding(crate::specs::Plain::plain_text), using(crate::proofs::RowTexts::plain_rows))]
 pub fn write_contents<S: Sink>(
     sink: &mut S,
     cells: &[Cell],

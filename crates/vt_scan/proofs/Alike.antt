@@ -1,11 +1,13 @@
 -- Equivalent states of the automaton: one scanner may be in either, and no byte ever distinguishes them.
-use Rattle.std.proofs.Common.{◌≡◌, ◌≢◌, ℕ, Bool, true, false, not, ◌⊎◌, List, [], ◌∷◌, ◌++◌}
-use Rattle.std.proofs.Common.{take, filter, inl, inr, refl, sym, subst, ◌∙◌, ap, rules}
+use Rattle.std.proofs.Common.{◌≡◌, ℕ, zero, suc, ◌<◌, ◌≤◌, nat_lt, true, List, [], ◌∷◌, ◌++◌, take, refl, sym, subst}
+use Rattle.std.proofs.Common.{◌∙◌, ap, arith, ◌≢◌, Bool, false, not, ◌⊎◌, filter, inl, inr, rules}
 use Rattle.std.proofs.Math.Logic.{⊎_elim}
-use Rattle.vt_scan.specs.Table.{transition_of, class_of}
-use Rattle.vt_scan.specs.Parameters.{GroupTable, table_of}
-use Rattle.vt_scan.specs.Automaton.{State, Step, EscDispatch, CsiDispatch, OscDispatch, Executed, is_parameter}
+use Rattle.std.proofs.lemmas.Bool.{cases_lt}
+use Rattle.std.proofs.lemmas.Bool.Decides.{nat_tests}
+use Rattle.vt_scan.specs.Automaton.{is_parameter, State, Step, EscDispatch, CsiDispatch, OscDispatch, Executed}
 use Rattle.vt_scan.specs.Automaton.{parameter_text, intermediates_of, parts_of, events_at_end, step_after, step_in}
+use Rattle.vt_scan.specs.Parameters.{groups_of, total, first_numbers, table_of, GroupTable}
+use Rattle.vt_scan.specs.Table.{transition_of, class_of}
 use Rattle.vt_scan.specs.Run.{run}
 use Rattle.vt_scan.specs.Scanner.{ScannerValue, Reads, ReadsSequence, StandsFor}
 use Rattle.vt_scan.specs.Internals.{Fits, FitsEnding}
@@ -17,9 +19,86 @@ use Rattle.vt_scan.specs.declared.table.Transition.{Transition}
 use Rattle.vt_scan.specs.declared.table.Transition.TheVariants.{Collect, Drop, Execute, End}
 use Rattle.vt_scan.specs.declared.table.Ending as ending
 use Rattle.vt_scan.specs.declared.table.Ending.TheVariants as ends
-use Rattle.vt_scan.proofs.Collecting.{filter-yes, filter-no, sequence_from, sequence_to}
-use Rattle.vt_scan.proofs.Growing.{table-more, take-more}
-use Rattle.vt_scan.proofs.Stepping.{step_in-table}
+use Rattle.vt_scan.proofs.Lists.{on_last}
+use Rattle.vt_scan.proofs.ParameterGroups.{with_digit, with_number, groups_of-digit, groups_of-colon}
+use Rattle.vt_scan.proofs.ParameterGroups.{groups_of-semicolon, groups_of-some, total-append, total-digit, total-number}
+use Rattle.vt_scan.proofs.ParameterGroups.{first_numbers-digit, first_numbers-number, first_numbers-groups}
+use Rattle.vt_scan.proofs.ParameterNumbers.{table, whole, cut, whole_is, is_cut}
+use Rattle.vt_scan.proofs.Steps.{filter-yes, filter-no, sequence_from, sequence_to, step_in-table}
+
+-- ==== The data kept of a text (its table of parameters and its first two intermediates) determines the data kept of
+-- the text with one more byte.
+
+-- A parameter byte is a digit, `:` or `;`.
+parameter_cases : (P : ℕ → Type 0) (b : ℕ) → is_parameter b ≡ true → (b < 0x3A → P b) → P 0x3A → P 0x3B → P b
+parameter_cases P b is digit colon semicolon =
+    let most : b < 0x3C = grind (arith, nat_tests) in
+    ⊎_elim
+    digit
+    (λ (more : 0x3A ≤ b).
+    ⊎_elim
+    (λ (less : b < 0x3B). let same : 0x3A ≡ b = omega arith in subst P same colon)
+    (λ (last : 0x3B ≤ b). let same : 0x3B ≡ b = omega arith in subst P same semicolon)
+    (cases_lt b 0x3B))
+    (cases_lt b 0x3A)
+
+-- Two texts with the same groups have the same table of kept numbers.
+table-groups : (text other : List ℕ) → groups_of text ≡ groups_of other → table_of text ≡ table_of other
+unfolding table_of
+table-groups text other e = ap (λ g. table (first_numbers 32 g) (nat_lt 32 (total g))) e
+
+groups-more : (text other : List ℕ) (b : ℕ) → is_parameter b ≡ true →
+    groups_of text ≡ groups_of other → groups_of (text ++ b ∷ []) ≡ groups_of (other ++ b ∷ [])
+groups-more text other b is e =
+    parameter_cases (λ x. groups_of (text ++ x ∷ []) ≡ groups_of (other ++ x ∷ [])) b is
+    (λ digit. groups_of-digit text b digit
+    ∙ ap (on_last (on_last (with_digit b))) e ∙ sym (groups_of-digit other b digit))
+    (groups_of-colon text ∙ ap (on_last with_number) e ∙ sym (groups_of-colon other))
+    (groups_of-semicolon text ∙ ap (λ g. g ++ (0 ∷ []) ∷ []) e ∙ sym (groups_of-semicolon other))
+
+-- If a text has more than 32 numbers, one more byte does not change its table.
+stays : (text : List ℕ) (b : ℕ) (groups : List (List ℕ)) → groups_of (text ++ b ∷ []) ≡ groups
+    → 32 < total (groups_of text) → total (groups_of text) ≤ total groups
+    → first_numbers 32 groups ≡ first_numbers 32 (groups_of text) → table_of (text ++ b ∷ []) ≡ table_of text
+stays text b groups more many rises same =
+    let still : 32 < total (groups_of (text ++ b ∷ [])) = rw more (omega arith) in
+    cut (text ++ b ∷ []) still ∙ ap (λ g. table g true) (ap (first_numbers 32) more ∙ same) ∙ sym (cut text many)
+
+table-cut : (text : List ℕ) (b : ℕ) → is_parameter b ≡ true →
+    32 < total (groups_of text) → table_of (text ++ b ∷ []) ≡ table_of text
+table-cut text b is many =
+    let groups = groups_of text in
+    parameter_cases (λ x. table_of (text ++ x ∷ []) ≡ table_of text) b is
+    (λ digit.
+    stays text b (on_last (on_last (with_digit b)) groups) (groups_of-digit text b digit)
+    many (omega (arith, total-digit (with_digit b) groups))
+    (first_numbers-digit (with_digit b) 32 groups many))
+    (stays text 0x3A (on_last with_number groups) (groups_of-colon text) many
+    (omega (arith, total-number groups (groups_of-some text))) (first_numbers-number 32 groups (omega arith)))
+    (stays text 0x3B (groups ++ (0 ∷ []) ∷ []) (groups_of-semicolon text) many
+    (omega (arith, total-append groups ((0 ∷ []) ∷ []))) (first_numbers-groups 32 groups ((0 ∷ []) ∷ []) (omega arith)))
+
+pub table-more : (text other : List ℕ) (b : ℕ) → is_parameter b ≡ true →
+    table_of text ≡ table_of other → table_of (text ++ b ∷ []) ≡ table_of (other ++ b ∷ [])
+table-more text other b is e =
+    ⊎_elim
+    (λ (many : 32 < total (groups_of text)).
+    let cuts = is_cut (first_numbers 32 (groups_of text)) other (sym (cut text many) ∙ e) in
+    table-cut text b is many ∙ e ∙ sym (table-cut other b is cuts))
+    (λ (few : total (groups_of text) ≤ 32).
+    table-groups (text ++ b ∷ []) (other ++ b ∷ [])
+    (groups-more text other b is (whole_is (groups_of text) other (sym (whole text few) ∙ e))))
+    (cases_lt 32 (total (groups_of text)))
+
+take-take : (n : ℕ) (xs ys : List ℕ) → take n (xs ++ ys) ≡ take n (take n xs ++ ys)
+take-take zero xs ys = refl
+take-take (suc n) [] ys = refl
+take-take (suc n) (x ∷ xs) ys = ap (λ l. x ∷ l) (take-take n xs ys)
+
+pub take-more : (n : ℕ) (xs ys : List ℕ) (b : ℕ) → take n xs ≡ take n ys → take n (xs ++ b ∷ []) ≡ take n (ys ++ b ∷ [])
+take-more n xs ys b e = take-take n xs (b ∷ []) ∙ ap (λ l. take n (l ++ b ∷ [])) e ∙ sym (take-take n ys (b ∷ []))
+
+-- ==== Equivalent states of the automaton: one scanner may be in either, and no byte ever distinguishes them.
 
 abbrev pub at : Kind → List ℕ → State
 at kind collected = record { kind = kind; collected = collected }

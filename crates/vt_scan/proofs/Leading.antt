@@ -24,12 +24,10 @@ use Rattle.vt_scan.specs.declared.table.Kind.TheVariants.{OscString, Skip}
 use Rattle.vt_scan.specs.declared.event.Event.TheVariants as event
 use Rattle.vt_scan.specs.declared.table.Transition.TheVariants.{Collect, End}
 use Rattle.vt_scan.specs.declared.table.Ending.TheVariants.{CsiDispatch, EscDispatch, Nothing, OscDispatch}
-use Rattle.vt_scan.proofs.Collecting.{collect_intermediate}
-use Rattle.vt_scan.proofs.Feeding.{fed_end, follows_as, no_event, one_event, fresh_escape}
-use Rattle.vt_scan.proofs.Readback.{run-known}
-use Rattle.vt_scan.proofs.Running.{run-append}
-use Rattle.vt_scan.proofs.Sequences.{class_of-final, class_of-parameter, no_intermediates, parameters_only, step_parameter}
-use Rattle.vt_scan.proofs.Stepping.{gives, either, class_of-control, class_of-text, step_in-table}
+use Rattle.vt_scan.proofs.Steps.{collect_intermediate, fed_end, follows_as, no_event, one_event, fresh_escape, gives}
+use Rattle.vt_scan.proofs.Steps.{either, class_of-control, class_of-text, step_in-table}
+use Rattle.vt_scan.proofs.Readback.{run-known, run-append, class_of-final, class_of-parameter, no_intermediates}
+use Rattle.vt_scan.proofs.Readback.{parameters_only, step_parameter}
 
 pub escape_feeds : (old new : ScannerValue) (b : ℕ) → old.kind ≡ Ground →
     old.unfinished ≡ [] → b ≡ 0x1B → Begins old new Escape → Feeds old b new no_event

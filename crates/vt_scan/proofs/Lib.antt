@@ -1,24 +1,12 @@
+-- The automaton
+pub mod Steps
 pub mod Alike
-pub mod Collecting
-pub mod Cutting
-pub mod Feeding
-pub mod Growing
-pub mod Leading
+-- Numbers and parts of a sequence
 pub mod Lists
-pub mod Lone
+pub mod ParameterGroups
+pub mod ParameterNumbers
+-- Texts
 pub mod Readback
-pub mod Reading
-pub mod Rows
-pub mod Running
-pub mod Sequences
-pub mod Standing
-pub mod Stepping
-pub mod Tables
-pub mod Whole
-pub mod Written
-pub mod Scalars
+pub mod Leading
+pub mod Characters
 pub mod Selectors
-pub mod Lanes
-pub mod WideTexts
-pub mod NarrowTexts
-pub mod NarrowBlocks

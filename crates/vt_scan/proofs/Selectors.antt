@@ -18,7 +18,7 @@ use Rattle.vt_scan.specs.declared.table.Kind.TheVariants.{Ground, Escape, Escape
 use Rattle.vt_scan.specs.declared.table.Kind.TheVariants.{CsiIntermediate, CsiIgnore, OscString, Skip}
 use Rattle.vt_scan.specs.declared.table.Transition.{Transition}
 use Rattle.vt_scan.specs.declared.table.Transition.TheVariants.{Collect, Drop, Execute, End}
-use Rattle.vt_scan.proofs.Stepping.{step_in-table}
+use Rattle.vt_scan.proofs.Steps.{step_in-table}
 
 abbrev IsOther : Event → Type 0
 IsOther event = event ≢ Character 0xFE0F

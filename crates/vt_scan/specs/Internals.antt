@@ -1,6 +1,6 @@
 -- Auxiliary definitions for proofs, cited only by the contracts of private functions.
-use Rattle.std.specs.Prelude.{◌≡◌, ◌≢◌, ℕ, ◌-◌, ◌<◌, ◌⊎◌, ◌&&◌, nat_le, Bool, true, false, List, [], ◌∷◌, ◌++◌}
-use Rattle.std.specs.Prelude.{◌≤◌, length, slice_index_or, take, drop, Some, None}
+use Rattle.std.specs.Prelude.{◌≡◌, ◌≢◌, ℕ, ◌-◌, ◌<◌, ◌⊎◌, ◌&&◌, nat_le, Bool, true, false, List, [], ◌∷◌, ◌++◌, ◌≤◌}
+use Rattle.std.specs.Prelude.{length, slice_index_or, take, drop, Some, None, ◌+◌, ◌%◌}
 use Rattle.vt_scan.specs.Characters.{is_character, is_beginning, character_of}
 use Rattle.vt_scan.specs.Parameters.{GroupTable}
 use Rattle.vt_scan.specs.Scanner.{ScannerValue, Reads}
@@ -16,6 +16,8 @@ use Rattle.vt_scan.specs.declared.unfinished.Bytes.{Bytes}
 use Rattle.vt_scan.specs.declared.unfinished.Bytes.TheVariants.{Zero, One, Two, Three}
 use Rattle.vt_scan.specs.declared.unfinished.Extended.{Extended}
 use Rattle.vt_scan.specs.declared.unfinished.Extended.TheVariants.{Further, Character, Broken}
+
+-- ==== Auxiliary definitions for proofs, cited only by the contracts of private functions.
 
 -- The value of a scanner with the given kind of state, incomplete character, numbers, intermediates and command text.
 abbrev pub scanner_value : Kind → List ℕ → GroupTable → List ℕ → List ℕ → ScannerValue
@@ -116,3 +118,10 @@ pub record Begins (old : ScannerValue) (new : ScannerValue) (begun : Kind) : Typ
   pub text : (begun ≡ kinds.Ground) ⊎ (begun ≡ kinds.Escape) → new.text ≡ old.text
   pub table : begun ≡ kinds.Ground → new.table ≡ old.table
   pub intermediates : begun ≡ kinds.Ground → new.intermediates ≡ old.intermediates
+
+-- ==== A single-comparison test of whether a byte is in a range; for private contracts and proofs only.
+
+-- `is_in_range low width b` holds if the byte `b` is one of the `width + 1` bytes from `low` on, where 0xFF is followed
+-- by 0.
+abbrev pub is_in_range : ℕ → ℕ → ℕ → Bool
+is_in_range low width b = nat_le ((b + (256 - low)) % 256) width

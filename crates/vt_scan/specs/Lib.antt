@@ -1,12 +1,11 @@
-pub mod WideTexts
+-- The automaton
 pub mod Table
-pub mod Parameters
 pub mod Characters
+pub mod Parameters
 pub mod Automaton
-pub mod Scanner
 pub mod Run
-pub mod Texts
 pub mod Selectors
+-- The scanner
+pub mod Scanner
+pub mod Texts
 pub mod Internals
-pub mod Ranges
-pub mod NarrowTexts

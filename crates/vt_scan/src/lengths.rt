@@ -3,8 +3,7 @@
 ghost use Rattle.std.specs.Prelude.{◌≡◌, ◌≢◌, ◌<◌, ◌≤◌, All, false, length, map, slice_index_or, take, true, ℕ};
 ghost use Rattle.std.specs.List.{AllByRecursion};
 ghost use Rattle.std.specs.Simd.Lanes.{mask_l};
-ghost use Rattle.vt_scan.specs.Internals.{IsUnended};
-ghost use Rattle.vt_scan.specs.Ranges.{is_in_range};
+ghost use Rattle.vt_scan.specs.Internals.{IsUnended, is_in_range};
 ghost use Rattle.vt_scan.specs.Scanner.{IsPrintableByte};
 
 use std::simd::prelude::*;

@@ -2,7 +2,7 @@
 
 ghost use Rattle.std.specs.Prelude.{◌≡◌, ◌≤◌, ◌<◌, ◌∷◌, [], IfSome, IsTrue, Some, length, slice_index_or, take};
 ghost use Rattle.vt_cells.specs.Glyph.{columns_of};
-ghost use Rattle.vt_scan.specs.NarrowTexts.{AreNarrow, IsNarrowCoded};
+ghost use Rattle.vt_scan.specs.Texts.{AreNarrow, IsNarrowCoded};
 ghost use Rattle.vt_scan.specs.Scanner.{IsPrintableByte};
 
 use crate::unfinished::{join_three, join_two, may_be_second, may_continue};
@@ -130,7 +130,7 @@ fn is_narrow(c: char) -> bool
 /// Returns whether `code` is in one of the common ranges in which every character takes one column:
 /// Latin, Greek and Cyrillic letters, box drawing and block elements.
 #[inline(always)]
-#[tactic(auto, using(crate::proofs::NarrowBlocks::blocks_narrow))]
+#[tactic(auto, using(crate::proofs::Characters::blocks_narrow))]
 fn is_in_block(code: u32) -> bool
     ensures { IsTrue result → columns_of code ≡ Some 1 }
 {

@@ -5,7 +5,7 @@ ghost use Rattle.std.specs.Prelude.{◌≡◌, ◌≢◌, ℕ, ◌*◌, ◌<◌,
 ghost use Rattle.std.specs.Prelude.{IfSome, IsSome, length, take, if◌then◌else◌};
 ghost use Rattle.vt_scan.specs.Characters.{character_of, continues, is_beginning, is_character, is_second};
 ghost use Rattle.vt_scan.specs.Internals.{Extends, bytes_in, is_unfinished};
-ghost use Rattle.vt_scan.specs.WideTexts.{AreWideThrees, IsWideThree};
+ghost use Rattle.vt_scan.specs.Texts.{AreWideThrees, IsWideThree};
 
 use std::marker::Model;
 use vt_cells::columns;

@@ -1,97 +1,62 @@
-pub mod ReadbackSgr
-pub mod ReadbackTexts
-pub mod Readback
-pub mod Shown
-pub mod Seen
-pub mod Redrawing
-pub mod Became
-pub mod EqualTexts
-pub mod Forms
-pub mod MovedRead
-pub mod ShiftedRead
-pub mod AnyRegion
-pub mod Chains
-pub mod Viewing
-pub mod Attributes
-pub mod CursorRead
-pub mod InputRead
-pub mod StateRead
-pub mod StatesAgain
-pub mod StatesWith
-pub mod Stable
-pub mod StableMoves
-mod Coloring
-pub mod Sizes
-pub mod Inside
-pub mod PageSteps
-pub mod Sized
-pub mod SizedRuns
-pub mod StableScrollback
-pub mod Asides
-mod Exchanging
-mod Resized
-mod Reporting
-mod Kept
-pub mod RowStarts
-pub mod TextSteps
-pub mod WideSteps
-pub mod ContentTexts
-pub mod RowTexts
-pub mod RowItemsRead
-pub mod RowItemsTold
-pub mod Tops
-pub mod TouchedReads
-pub mod TouchedTexts
-mod Captures
-pub mod MadeOf
-pub mod MovedMade
-pub mod MadePlain
-pub mod Escapes
-pub mod CaptureTexts
-pub mod Tracked
-pub mod GapsRead
-pub mod Instead
-pub mod KnownSteps
+-- Steps: what each keeps, and how the code performs it
+pub mod StepCells
+pub mod StepScrollback
+pub mod StepInvariant
+mod StepPages
+pub mod StepRuns
+pub mod StepEvents
+pub mod StepRegions
+-- Sizes of screens and pages
+pub mod SizePage
+pub mod SizeCursors
+pub mod SizeRuns
+-- Calls to callbacks
+pub mod CallsReported
+pub mod CallsNone
+-- Rows that scroll off, and U+FE0F
 pub mod TrailingBlanks
-pub mod TrailingBlanksScrollback
 pub mod Streaming
-pub mod EventSteps
 mod Selectors
-mod SelectorRuns
-pub mod WhateverScrollback
-pub mod StreamedTexts
-pub mod CallsOfRun
-pub mod StepLists
-pub mod Sizing
-mod WideFlags
-mod Framing
-mod QuietSteps
-pub mod PlainAgain
-mod MovedAgain
-mod ShiftedAgain
-mod ShiftedViews
-pub mod NoCallbacks
+-- Reading output
+pub mod ReadSgr
+pub mod ReadTexts
+pub mod ReadOperations
+pub mod Shown
+pub mod ReadRedraws
+pub mod ReadRows
+pub mod ReadStates
+pub mod ReadMoved
+pub mod ReadShifted
+-- Plain terminals that are plain again
+pub mod AgainPlain
+pub mod AgainMoved
+pub mod AgainStates
+pub mod AgainForms
+-- The elements of output
+pub mod MadeOf
+pub mod MadeEscapes
+pub mod MadeContents
+pub mod MadeCaptures
+-- Shorter movements and gaps
+pub mod ReadCharacters
+pub mod ReadRoutes
+pub mod ReadElements
+pub mod ReadGaps
+pub mod ShortOutput
+pub mod ShortMoves
+-- Runs written with REP
 pub mod RepeatRooms
 pub mod RepeatSteps
-pub mod Repeated
 pub mod RepeatTokens
-mod NoRepeats
-mod PieceCuts
-pub mod RepeatedDiffs
-pub mod Replacing
-pub mod RouteLengths
-pub mod RoutesRead
-pub mod CharactersRead
-pub mod ElementsRead
-pub mod Numbers
-pub mod ShortMovesRead
-pub mod OrRedraw
-pub mod PortableBands
-pub mod PortableElements
-pub mod PortableOutputs
-pub mod PortableExamples
-pub mod PortableMoves
-pub mod PortableOrder
-pub mod PortableReads
-pub mod PortableRepeats
+mod RepeatCuts
+pub mod RepeatRead
+pub mod RepeatDiffs
+-- Portable output
 pub mod PortableSgr
+pub mod PortableReads
+pub mod PortableMoves
+pub mod PortableElements
+pub mod PortableRepeats
+pub mod PortableExamples
+-- Positions that output touches
+pub mod TouchReads

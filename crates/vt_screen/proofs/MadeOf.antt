@@ -8,11 +8,12 @@ use Rattle.vt_cells.specs.Op.{EraseRest, EraseChars, SaveCursor, RestoreCursor, 
 use Rattle.vt_cells.specs.Op.{bytes_of, bytes_of_all, change_numbers, change_text, counted, csi, place}
 use Rattle.vt_redraw.specs.Fits.{Fits, IsDrawn, IsDrawnText}
 use Rattle.vt_redraw.specs.Redraw.{cursor_state, difference, redraw}
-use Rattle.vt_redraw.proofs.Fitting.{cursor_state_fits, difference_fits, redraw_fits}
+use Rattle.vt_redraw.proofs.PictureFits.{cursor_state_fits, difference_fits, redraw_fits, difference_item_fits}
+use Rattle.vt_redraw.proofs.PictureFits.{redraw_item_fits}
 use Rattle.vt_screen.specs.AnyRegion.{reset_text}
 use Rattle.vt_screen.specs.Screen.{ScreenValue, IsScreen, IsColored}
 use Rattle.vt_screen.specs.Shown.{attributes_text, display, display_change, shown_text}
-use Rattle.vt_screen.proofs.Readback.{shown_range}
+use Rattle.vt_screen.proofs.ReadOperations.{shown_range}
 use Rattle.vt_screen.proofs.Shown.{shown_colored, shown_is}
 use Rattle.vt_screen.specs.MadeOf.{Piece, IsCharacter, Characters, Numbered, Control, piece_text, IsOneOf, IsPiece, IsMadeOf}
 use Rattle.vt_screen.specs.MadeOf.{drawing_finals, drawing_controls, reset_controls}
@@ -28,11 +29,10 @@ use Rattle.vt_cells.specs.declared.modes.MouseProtocolMode.{MouseProtocolMode}
 use Rattle.vt_cells.specs.declared.modes.MouseProtocolMode.TheVariants as mouse
 use Rattle.vt_redraw.specs.Items.{is_linked, item_of_difference, item_of_redraw}
 use Rattle.vt_redraw.specs.Locality.{row_of_picture}
-use Rattle.vt_redraw.proofs.ItemFits.{difference_item_fits, redraw_item_fits}
-use Rattle.vt_screen.specs.InputTexts.{input_change, input_text, mouse_and_style_text, where_changed}
+use Rattle.vt_screen.specs.States.{input_change, input_text, mouse_and_style_text, where_changed, state_change}
+use Rattle.vt_screen.specs.States.{state_text}
 use Rattle.vt_screen.specs.RowsShown.{changed_text, formatted_text}
 use Rattle.vt_screen.specs.Screen.{Modes, no_modes}
-use Rattle.vt_screen.specs.States.{state_change, state_text}
 use Rattle.vt_screen.proofs.Shown.{shown_height}
 
 -- ---- concatenated output

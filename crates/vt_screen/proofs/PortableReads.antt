@@ -18,20 +18,17 @@ use Rattle.vt_grid.specs.Scrollback.{Scrollback}
 use Rattle.vt_redraw.specs.Doubts.{Doubts, doubts_of}
 use Rattle.vt_redraw.specs.Fits.{Fits, IsDrawn}
 use Rattle.vt_redraw.specs.Picture.{Picture}
-use Rattle.vt_redraw.specs.PortableOps.{PortableText, PortableOps, IsPortableOp, canvas_after_print, canvas_after_return}
-use Rattle.vt_redraw.specs.PortableOps.{change_intensities, doubts_after_text, doubts_after_op}
-use Rattle.vt_redraw.specs.Uses.{Use, Graphic, Cup, Cr, Cuf, Bs, Lf, Ed, El, Ech, Sgr, Dectcem, Decsc, Decrc, Other}
-use Rattle.vt_redraw.specs.Uses.{IsPortableUse, doubts_after}
+use Rattle.vt_redraw.specs.Uses.{PortableText, PortableOps, IsPortableOp, canvas_after_print, canvas_after_return}
+use Rattle.vt_redraw.specs.Uses.{change_intensities, doubts_after_text, doubts_after_op, Use, Graphic, Cup, Cr, Cuf, Bs}
+use Rattle.vt_redraw.specs.Uses.{Lf, Ed, El, Ech, Sgr, Dectcem, Decsc, Decrc, Other, IsPortableUse, doubts_after}
 use Rattle.vt_scan.specs.Automaton.{State, Step, Event, Character, Executed, EscDispatch, CsiDispatch, start, fresh_step}
 use Rattle.vt_scan.specs.Parameters.{table_of, groups_of, numbers_of, number_of}
 use Rattle.vt_scan.specs.Run.{run}
 use Rattle.vt_scan.specs.Table.{class_of}
 use Rattle.vt_scan.specs.Texts.{IsParameterText, back_with, place_groups}
-use Rattle.vt_scan.proofs.Readback.{read_control, read_written}
-use Rattle.vt_scan.proofs.Running.{events_then, run-append}
-use Rattle.vt_scan.proofs.Sequences.{read_csi}
-use Rattle.vt_scan.proofs.Written.{alone, empty_groups, decimal_groups, joined_groups, place_groups_are}
-use Rattle.vt_scan.proofs.Written.{decimal_is_parameter, joined_is_parameter, place_is_parameter}
+use Rattle.vt_scan.proofs.Readback.{read_control, read_written, events_then, run-append, read_csi}
+use Rattle.vt_scan.proofs.ParameterNumbers.{alone, empty_groups, decimal_groups, joined_groups, place_groups_are}
+use Rattle.vt_scan.proofs.ParameterNumbers.{decimal_is_parameter, joined_is_parameter, place_is_parameter}
 use Rattle.vt_screen.specs.CallsOfRun.{screen_after_all, screen_in, steps_of_all}
 use Rattle.vt_screen.specs.Controls.{control_steps, number_or, seen_of, steps_of}
 use Rattle.vt_screen.specs.Portable.{IsPortable, IsPortableRedraw, PortableEvents, control_use, csi_use, doubts_after_all}
@@ -42,12 +39,11 @@ use Rattle.vt_screen.specs.Shown.{IsReader, IsReaderOf}
 use Rattle.vt_screen.specs.Steps.{Print as PrintStep, display_after, screen_after_scrolling_step}
 use Rattle.vt_screen.specs.Steps as steps
 use Rattle.vt_screen.proofs.PortableSgr.{change_use, clear_use}
-use Rattle.vt_screen.proofs.QuietSteps.{read_run}
-use Rattle.vt_screen.proofs.Readback.{and_then-some, reads_op, text_same, text_plain, text_parts, prints}
-use Rattle.vt_screen.proofs.Readback.{shown_range, all_scalar}
-use Rattle.vt_screen.proofs.ReadbackSgr.{few_changes, some_changes}
-use Rattle.vt_screen.proofs.ReadbackTexts.{IsFinal}
-use Rattle.vt_screen.proofs.StepLists.{stepped_then}
+use Rattle.vt_screen.proofs.CallsNone.{read_run}
+use Rattle.vt_screen.proofs.ReadOperations.{and_then-some, reads_op, text_same, text_plain, text_parts, prints}
+use Rattle.vt_screen.proofs.ReadOperations.{shown_range, all_scalar}
+use Rattle.vt_screen.proofs.ReadSgr.{few_changes, some_changes}
+use Rattle.vt_screen.proofs.ReadTexts.{IsFinal, stepped_then}
 
 -- ---- events in sequence
 

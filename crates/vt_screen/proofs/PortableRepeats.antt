@@ -1,163 +1,44 @@
 -- Portable output in which runs are written with REP.
-use Rattle.std.proofs.Common.{◌≡◌, ◌≢◌, ℕ, zero, suc, ◌+◌, ◌<◌, ◌≤◌, ◌==◌, ◌&&◌, ◌||◌, not, Bool, true, false, List, [], ◌∷◌, ◌++◌}
-use Rattle.std.proofs.Common.{Option, Some, None, refl, sym, ap, ap₂, subst, ◌∙◌, arith, append_assoc, length, take, drop, slice_index_or, ◌-◌}
+use Rattle.std.proofs.Common.{◌≡◌, ◌≢◌, ℕ, zero, suc, ◌+◌, ◌<◌, ◌≤◌, ◌==◌, ◌&&◌, ◌||◌, not, Bool, true, false, List, []}
+use Rattle.std.proofs.Common.{◌∷◌, ◌++◌, Option, Some, refl, sym, ap, ap₂, subst, ◌∙◌, arith, append_assoc, length}
+use Rattle.std.proofs.Common.{take, drop, slice_index_or, ◌-◌}
 use Rattle.std.specs.Prelude.{if◌then◌else◌}
 use Rattle.std.specs.Char.{encode_utf8}
-use Rattle.std.specs.List.{flat_map, list_all}
 use Rattle.std.proofs.lemmas.Bool.Decides.{nat_tests}
 use Rattle.std.proofs.lemmas.List.{append_cancel_left, take-append-drop}
 use Rattle.vt_cells.specs.Glyph.{columns_of}
 use Rattle.vt_cells.specs.Op.{csi}
-use Rattle.vt_grid.specs.Canvas.{Canvas}
-use Rattle.vt_grid.specs.Page.{Page}
-use Rattle.vt_redraw.specs.Certain.{is_certain}
-use Rattle.vt_redraw.specs.Doubts.{Doubts, IsPlaced, NotPending, Unsure, Wrap, wrap_at}
-use Rattle.vt_redraw.specs.Fits.{IsDrawn}
-use Rattle.vt_redraw.specs.Uses.{Use, Graphic, Cup, Cr, Cha, Cuf, Bs, Lf, Ed, El, Ech, Lines, Columns, Rep, Sgr}
-use Rattle.vt_redraw.specs.Uses.{Dectcem, Decsc, Decrc, Other, IsPortableCharacter, IsPortableUse, doubts_after, may_print}
-use Rattle.vt_redraw.specs.Uses.{wrap_after_feed}
 use Rattle.vt_scan.specs.Automaton.{Event, Step, Character, Executed, EscDispatch, CsiDispatch, OscDispatch, start}
 use Rattle.vt_scan.specs.Internals.{Opens}
 use Rattle.vt_scan.specs.Parameters.{table_of}
 use Rattle.vt_scan.specs.Run.{run}
 use Rattle.vt_scan.specs.Texts.{back_with}
-use Rattle.vt_scan.proofs.Readback.{read_control}
-use Rattle.vt_scan.proofs.Running.{events_then}
-use Rattle.vt_scan.proofs.Sequences.{read_csi}
+use Rattle.vt_scan.proofs.Readback.{read_control, events_then, read_csi}
+use Rattle.vt_grid.specs.Page.{Page}
+use Rattle.vt_redraw.specs.Certain.{is_certain}
+use Rattle.vt_redraw.specs.Doubts.{Doubts, IsPlaced, NotPending, Wrap, wrap_at}
+use Rattle.vt_redraw.specs.Fits.{IsDrawn}
+use Rattle.vt_redraw.specs.Uses.{Use, Graphic, Cup, Cr, Cha, Cuf, Bs, Lf, Ed, El, Ech, Lines, Columns, Rep, Dectcem}
+use Rattle.vt_redraw.specs.Uses.{Decsc, Decrc, Other, IsPortableCharacter, IsPortableUse, doubts_after, may_print}
 use Rattle.vt_screen.specs.CallsOfRun.{screen_after_all, screen_in, steps_of_all}
-use Rattle.vt_screen.specs.Controls.{number_at, number_or, seen_of, sgr_steps, steps_of}
-use Rattle.vt_screen.specs.Portable.{PortableEvents, ReadsAgreed, control_use, csi_use, doubts_after_all, doubts_after_output}
-use Rattle.vt_screen.specs.Portable.{escape_use, has_single_numbers, intensities_set, is_render, private_use}
-use Rattle.vt_screen.specs.Portable.{sgr_use, use_of}
-use Rattle.vt_screen.specs.RepeatInternals.{BeginApart, IsApart, IsApartEvent, IsFinalAt, KeepsAgreed}
+use Rattle.vt_screen.specs.Controls.{number_at, number_or, seen_of, steps_of}
+use Rattle.vt_screen.specs.Portable.{PortableEvents, ReadsAgreed, control_use, csi_use, doubts_after_all}
+use Rattle.vt_screen.specs.Portable.{doubts_after_output, escape_use, has_single_numbers, private_use, sgr_use, use_of}
+use Rattle.vt_screen.specs.Internals.{BeginApart, IsApart, IsApartEvent, IsFinalAt, KeepsAgreed}
 use Rattle.vt_screen.specs.Repeating.{IsNarrow, copies, repeat_text}
 use Rattle.vt_screen.specs.Screen.{ScreenValue, canvas_of}
 use Rattle.vt_screen.specs.Steps.{Print, Step as Action, screen_after}
-use Rattle.vt_screen.proofs.CharactersRead.{printed_moves}
+use Rattle.vt_screen.proofs.ReadCharacters.{printed_moves}
 use Rattle.vt_screen.proofs.PortableReads.{character_reads, events_split, run_then}
-use Rattle.vt_screen.proofs.PortableMoves.{wrap_within}
-use Rattle.vt_screen.proofs.PortableOrder.{output_split, output_then}
-use Rattle.vt_screen.proofs.Readback.{prints}
+use Rattle.vt_screen.proofs.PortableMoves.{wrap_within, output_split, output_then}
+use Rattle.vt_screen.proofs.ReadOperations.{prints}
 use Rattle.vt_screen.proofs.RepeatRooms.{page_sent}
 use Rattle.vt_screen.proofs.RepeatTokens.{sequence_taken}
-use Rattle.vt_screen.proofs.RepeatSteps.{copies_read, copies_steps, count_itself, printed, printed_last, repeat_read, repeat_steps}
-
--- ---- elements that do not depend on whether a character was printed just before
-
--- Terminals agree as much on the position of the cursor, and on whether a wrap is pending.
-pub record IsAsPlaced (was now : Doubts) : Type 0 where
-  pub wrap : now.wrap ≡ was.wrap
-  pub place : now.is_shifted ≡ was.is_shifted
-
-record IsFree (element : Use) : Type 0 where
-  allowed : (was now : Doubts) (canvas : Canvas) → IsAsPlaced was now → IsPortableUse element was canvas →
-      IsPortableUse element now canvas
-  after : (was now : Doubts) (canvas : Canvas) → IsAsPlaced was now →
-      doubts_after element was canvas ≡ doubts_after element now canvas
-
-abbrev doubts_with : Wrap → Bool → Bool → Doubts
-doubts_with wrap shifted after = record { wrap = wrap; is_shifted = shifted; is_after_character = after }
-
-after_it : (was now : Doubts) → IsAsPlaced was now → doubts_with was.wrap was.is_shifted false ≡ doubts_with now.wrap now.is_shifted false
-after_it was now p = ap₂ (λ (w : Wrap) (s : Bool). doubts_with w s false) (sym p.wrap) (sym p.place)
-
-placed_too : (was now : Doubts) → IsAsPlaced was now → IsPlaced was → IsPlaced now
-placed_too was now p q = record { wrap = p.wrap ∙ q.wrap; place = p.place ∙ q.place }
-
-free_character : (columns : Option ℕ) (c : ℕ) (was now : Doubts) (page : Page) → columns ≢ Some 0 → IsAsPlaced was now →
-    IsPortableCharacter columns c was page → IsPortableCharacter columns c now page
-free_character None c was now page other p h = h
-free_character (Some zero) c was now page other p h = absurd (other refl)
-free_character (Some (suc n)) c was now page other p h = (ap₂ may_print p.wrap p.place ∙ h.0, h.1)
-
-free_graphic : (c : ℕ) → columns_of c ≢ Some 0 → IsFree (Graphic c)
-free_graphic c other = record {
-  allowed = λ was now canvas p h. free_character (columns_of c) c was now canvas.page other p h;
-  after = λ was now canvas p.
-      ap (λ (s : Bool). record (doubts_after (Graphic c) was canvas) { is_shifted = s || not (is_certain c) }) (sym p.place);
-}
-
-free_other : IsFree Other
-free_other = record { allowed = λ was now canvas p h. h; after = λ was now canvas p. after_it was now p }
-
-free_if : (b : Bool) (x y : Use) → IsFree x → IsFree y → IsFree (if b then x else y)
-free_if true x y h k = h
-free_if false x y h k = k
-
-free_unless : (b : Bool) (x y : Use) → b ≡ false → IsFree y → IsFree (if b then x else y)
-free_unless true x y e h = absurd cc
-free_unless false x y e h = h
-
-free_cup : IsFree Cup
-free_cup = record { allowed = λ was now canvas p h. tt; after = λ was now canvas p. refl }
-
-free_cr : IsFree Cr
-free_cr = record { allowed = λ was now canvas p h. p.place ∙ h; after = λ was now canvas p. refl }
-
-free_cha : IsFree Cha
-free_cha = record { allowed = λ was now canvas p h. p.place ∙ h; after = λ was now canvas p. refl }
-
-free_cuf : IsFree Cuf
-free_cuf = record { allowed = λ was now canvas p h. placed_too was now p h; after = λ was now canvas p. refl }
-
-free_bs : IsFree Bs
-free_bs = record { allowed = λ was now canvas p h. (placed_too was now p h.0, h.1); after = λ was now canvas p. refl }
-
-free_lf : IsFree Lf
-free_lf = record {
-  allowed = λ was now canvas p h. (p.place ∙ h.0, h.1);
-  after = λ was now canvas p.
-      ap₂ (λ (w : Wrap) (s : Bool). doubts_with (wrap_after_feed w) s false) (sym p.wrap) (sym p.place);
-}
-
-free_ed : IsFree Ed
-free_ed = record {
-  allowed = λ was now canvas p h. (placed_too was now p h.0, h.1);
-  after = λ was now canvas p. after_it was now p;
-}
-
-free_el : IsFree El
-free_el = record {
-  allowed = λ was now canvas p h. (placed_too was now p h.0, h.1);
-  after = λ was now canvas p. after_it was now p;
-}
-
-free_ech : (count : ℕ) → IsFree (Ech count)
-free_ech count = record {
-  allowed = λ was now canvas p h. (placed_too was now p h.0, h.1);
-  after = λ was now canvas p. after_it was now p;
-}
-
-free_lines : IsFree Lines
-free_lines = record {
-  allowed = λ was now canvas p h. (placed_too was now p h.0, h.1);
-  after = λ was now canvas p. after_it was now p;
-}
-
-free_columns : IsFree Columns
-free_columns = record {
-  allowed = λ was now canvas p h. (placed_too was now p h.0, h.1);
-  after = λ was now canvas p. after_it was now p;
-}
-
-free_sgr : (groups : List (List ℕ)) → IsFree (sgr_use groups)
-free_sgr groups =
-    free_if (list_all is_render (sgr_steps groups)) (Sgr (flat_map intensities_set (sgr_steps groups))) Other (record {
-      allowed = λ was now canvas p h. h;
-      after = λ was now canvas p. after_it was now p;
-    }) free_other
-
-free_dectcem : IsFree Dectcem
-free_dectcem = record { allowed = λ was now canvas p h. tt; after = λ was now canvas p. after_it was now p }
-
-free_decsc : IsFree Decsc
-free_decsc = record { allowed = λ was now canvas p h. p.place ∙ h; after = λ was now canvas p. after_it was now p }
-
-free_decrc : IsFree Decrc
-free_decrc = record {
-  allowed = λ was now canvas p h. h;
-  after = λ was now canvas p. ap (λ (s : Bool). doubts_with Unsure s false) (sym p.place);
-}
+use Rattle.vt_screen.proofs.RepeatSteps.{copies_read, copies_steps, count_itself, printed, printed_last, repeat_read}
+use Rattle.vt_screen.proofs.RepeatSteps.{repeat_steps}
+use Rattle.vt_screen.proofs.PortableSgr.{IsAsPlaced, IsFree, free_graphic, free_other, free_if, free_unless, free_cup}
+use Rattle.vt_screen.proofs.PortableSgr.{free_cr, free_cha, free_cuf, free_bs, free_lf, free_ed, free_el, free_ech}
+use Rattle.vt_screen.proofs.PortableSgr.{free_lines, free_columns, free_sgr, free_dectcem, free_decsc, free_decrc}
 
 -- ---- events
 

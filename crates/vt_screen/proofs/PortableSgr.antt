@@ -1,20 +1,26 @@
--- The intensities that the SGR sequence of a change of attributes sets.
-use Rattle.std.proofs.Common.{◌≡◌, ℕ, ◌+◌, ◌<◌, Bool, true, false, nat_lt, if◌then◌else◌, List, [], ◌∷◌, ◌++◌}
-use Rattle.std.proofs.Common.{map, refl, sym, ap, ◌∙◌, arith}
+-- Intensities in portable output, and elements that are portable after any character.
+use Rattle.std.proofs.Common.{◌≡◌, ℕ, ◌+◌, ◌<◌, Bool, true, false, nat_lt, if◌then◌else◌, List, [], ◌∷◌, ◌++◌, map}
+use Rattle.std.proofs.Common.{refl, sym, ap, ◌∙◌, arith, ◌≢◌, zero, suc, ◌||◌, not, Option, Some, None, ap₂}
 use Rattle.std.proofs.lemmas.Bool.{cond_both}
 use Rattle.std.proofs.lemmas.Bool.Decides.{nat_tests}
 use Rattle.std.proofs.lemmas.List.{map-append, append_assoc, append-nil}
 use Rattle.std.specs.List.{flat_map, list_all}
 use Rattle.vt_cells.specs.Attrs.{default_attrs, same_attrs, same_color, same_intensity, same_bool, Attrs}
-use Rattle.vt_cells.specs.Op.{FitsColor, FitsAttrs, foreground_numbers, background_numbers}
-use Rattle.vt_cells.specs.Op.{intensity_number, part, change_numbers}
+use Rattle.vt_cells.specs.Op.{FitsColor, FitsAttrs, foreground_numbers, background_numbers, intensity_number, part}
+use Rattle.vt_cells.specs.Op.{change_numbers}
 use Rattle.vt_cells.specs.declared.attrs.Intensity.{Intensity}
 use Rattle.vt_cells.specs.declared.attrs.Intensity.TheVariants.{Normal, Bold, Dim}
 use Rattle.vt_cells.specs.declared.color.Color.{Color}
 use Rattle.vt_cells.specs.declared.color.Color.TheVariants.{Default, Idx, Rgb}
-use Rattle.vt_redraw.specs.PortableOps.{change_intensities}
-use Rattle.vt_redraw.specs.Uses.{Sgr, Other}
-use Rattle.vt_scan.proofs.Written.{alone}
+use Rattle.vt_cells.specs.Glyph.{columns_of}
+use Rattle.vt_scan.proofs.ParameterNumbers.{alone}
+use Rattle.vt_grid.specs.Canvas.{Canvas}
+use Rattle.vt_grid.specs.Page.{Page}
+use Rattle.vt_redraw.specs.Uses.{change_intensities, Sgr, Other, Use, Graphic, Cup, Cr, Cha, Cuf, Bs, Lf, Ed, El, Ech}
+use Rattle.vt_redraw.specs.Uses.{Lines, Columns, Dectcem, Decsc, Decrc, IsPortableCharacter, IsPortableUse}
+use Rattle.vt_redraw.specs.Uses.{doubts_after, may_print, wrap_after_feed}
+use Rattle.vt_redraw.specs.Certain.{is_certain}
+use Rattle.vt_redraw.specs.Doubts.{Doubts, IsPlaced, Unsure, Wrap}
 use Rattle.vt_screen.specs.Controls.{sgr_from, sgr_steps}
 use Rattle.vt_screen.specs.Portable.{intensities_set, is_render, sgr_use}
 use Rattle.vt_screen.specs.Sgr.{group_read, number_read, setting_read, silent_read, set, color_setting}
@@ -22,11 +28,13 @@ use Rattle.vt_screen.specs.Steps.{Step, Render}
 use Rattle.vt_screen.specs.declared.sgr.Layer.{Layer}
 use Rattle.vt_screen.specs.declared.sgr.Layer.TheVariants.{Front, Back}
 use Rattle.vt_screen.specs.declared.sgr.Setting.{Setting}
-use Rattle.vt_screen.specs.declared.sgr.Setting.TheVariants.{Foreground, Background, Strength}
-use Rattle.vt_screen.specs.declared.sgr.Setting.TheVariants.{Italic, Underline, Inverse}
+use Rattle.vt_screen.specs.declared.sgr.Setting.TheVariants.{Foreground, Background, Strength, Italic, Underline}
+use Rattle.vt_screen.specs.declared.sgr.Setting.TheVariants.{Inverse}
 use Rattle.vt_screen.specs.declared.sgr.Wanted.TheVariants.{Any, Form, Index, Red, Green, Blue}
-use Rattle.vt_screen.proofs.ReadbackSgr.{one_group, number_group, form_rgb, form_index, red_fits, green_fits, blue_fits}
-use Rattle.vt_screen.proofs.ReadbackSgr.{index_fits, foreground_low, foreground_high, background_low, background_high}
+use Rattle.vt_screen.proofs.ReadSgr.{one_group, number_group, form_rgb, form_index, red_fits, green_fits, blue_fits}
+use Rattle.vt_screen.proofs.ReadSgr.{index_fits, foreground_low, foreground_high, background_low, background_high}
+
+-- ==== The intensities that the SGR sequence of a change of attributes sets.
 
 -- ---- the settings that numbers are read as, whatever follows them
 
@@ -212,3 +220,122 @@ change_use was new fits plain =
 pub clear_use : sgr_use ((0 ∷ []) ∷ []) ≡ Sgr (Normal ∷ [])
 unfolding group_read setting_read number_read
 clear_use = refl
+
+-- ==== Portable output in which runs are written with REP.
+
+-- ---- elements that do not depend on whether a character was printed just before
+
+-- Terminals agree as much on the position of the cursor, and on whether a wrap is pending.
+pub record IsAsPlaced (was now : Doubts) : Type 0 where
+  pub wrap : now.wrap ≡ was.wrap
+  pub place : now.is_shifted ≡ was.is_shifted
+
+pub record IsFree (element : Use) : Type 0 where
+  pub allowed : (was now : Doubts) (canvas : Canvas) → IsAsPlaced was now → IsPortableUse element was canvas →
+      IsPortableUse element now canvas
+  pub after : (was now : Doubts) (canvas : Canvas) → IsAsPlaced was now →
+      doubts_after element was canvas ≡ doubts_after element now canvas
+
+abbrev doubts_with : Wrap → Bool → Bool → Doubts
+doubts_with wrap shifted after = record { wrap = wrap; is_shifted = shifted; is_after_character = after }
+
+after_it : (was now : Doubts) → IsAsPlaced was now → doubts_with was.wrap was.is_shifted false ≡ doubts_with now.wrap now.is_shifted false
+after_it was now p = ap₂ (λ (w : Wrap) (s : Bool). doubts_with w s false) (sym p.wrap) (sym p.place)
+
+placed_too : (was now : Doubts) → IsAsPlaced was now → IsPlaced was → IsPlaced now
+placed_too was now p q = record { wrap = p.wrap ∙ q.wrap; place = p.place ∙ q.place }
+
+free_character : (columns : Option ℕ) (c : ℕ) (was now : Doubts) (page : Page) → columns ≢ Some 0 → IsAsPlaced was now →
+    IsPortableCharacter columns c was page → IsPortableCharacter columns c now page
+free_character None c was now page other p h = h
+free_character (Some zero) c was now page other p h = absurd (other refl)
+free_character (Some (suc n)) c was now page other p h = (ap₂ may_print p.wrap p.place ∙ h.0, h.1)
+
+pub free_graphic : (c : ℕ) → columns_of c ≢ Some 0 → IsFree (Graphic c)
+free_graphic c other = record {
+  allowed = λ was now canvas p h. free_character (columns_of c) c was now canvas.page other p h;
+  after = λ was now canvas p.
+      ap (λ (s : Bool). record (doubts_after (Graphic c) was canvas) { is_shifted = s || not (is_certain c) }) (sym p.place);
+}
+
+pub free_other : IsFree Other
+free_other = record { allowed = λ was now canvas p h. h; after = λ was now canvas p. after_it was now p }
+
+pub free_if : (b : Bool) (x y : Use) → IsFree x → IsFree y → IsFree (if b then x else y)
+free_if true x y h k = h
+free_if false x y h k = k
+
+pub free_unless : (b : Bool) (x y : Use) → b ≡ false → IsFree y → IsFree (if b then x else y)
+free_unless true x y e h = absurd cc
+free_unless false x y e h = h
+
+pub free_cup : IsFree Cup
+free_cup = record { allowed = λ was now canvas p h. tt; after = λ was now canvas p. refl }
+
+pub free_cr : IsFree Cr
+free_cr = record { allowed = λ was now canvas p h. p.place ∙ h; after = λ was now canvas p. refl }
+
+pub free_cha : IsFree Cha
+free_cha = record { allowed = λ was now canvas p h. p.place ∙ h; after = λ was now canvas p. refl }
+
+pub free_cuf : IsFree Cuf
+free_cuf = record { allowed = λ was now canvas p h. placed_too was now p h; after = λ was now canvas p. refl }
+
+pub free_bs : IsFree Bs
+free_bs = record { allowed = λ was now canvas p h. (placed_too was now p h.0, h.1); after = λ was now canvas p. refl }
+
+pub free_lf : IsFree Lf
+free_lf = record {
+  allowed = λ was now canvas p h. (p.place ∙ h.0, h.1);
+  after = λ was now canvas p.
+      ap₂ (λ (w : Wrap) (s : Bool). doubts_with (wrap_after_feed w) s false) (sym p.wrap) (sym p.place);
+}
+
+pub free_ed : IsFree Ed
+free_ed = record {
+  allowed = λ was now canvas p h. (placed_too was now p h.0, h.1);
+  after = λ was now canvas p. after_it was now p;
+}
+
+pub free_el : IsFree El
+free_el = record {
+  allowed = λ was now canvas p h. (placed_too was now p h.0, h.1);
+  after = λ was now canvas p. after_it was now p;
+}
+
+pub free_ech : (count : ℕ) → IsFree (Ech count)
+free_ech count = record {
+  allowed = λ was now canvas p h. (placed_too was now p h.0, h.1);
+  after = λ was now canvas p. after_it was now p;
+}
+
+pub free_lines : IsFree Lines
+free_lines = record {
+  allowed = λ was now canvas p h. (placed_too was now p h.0, h.1);
+  after = λ was now canvas p. after_it was now p;
+}
+
+pub free_columns : IsFree Columns
+free_columns = record {
+  allowed = λ was now canvas p h. (placed_too was now p h.0, h.1);
+  after = λ was now canvas p. after_it was now p;
+}
+
+pub free_sgr : (groups : List (List ℕ)) → IsFree (sgr_use groups)
+free_sgr groups =
+    free_if (list_all is_render (sgr_steps groups)) (Sgr (flat_map intensities_set (sgr_steps groups))) Other (record {
+      allowed = λ was now canvas p h. h;
+      after = λ was now canvas p. after_it was now p;
+    }) free_other
+
+pub free_dectcem : IsFree Dectcem
+free_dectcem = record { allowed = λ was now canvas p h. tt; after = λ was now canvas p. after_it was now p }
+
+pub free_decsc : IsFree Decsc
+free_decsc = record { allowed = λ was now canvas p h. p.place ∙ h; after = λ was now canvas p. after_it was now p }
+
+pub free_decrc : IsFree Decrc
+free_decrc = record {
+  allowed = λ was now canvas p h. h;
+  after = λ was now canvas p. ap (λ (s : Bool). doubts_with Unsure s false) (sym p.place);
+}

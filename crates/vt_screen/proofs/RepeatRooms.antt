@@ -30,8 +30,7 @@ use Rattle.vt_scan.specs.Parameters.{groups_of, number_of, numbers_of, table_of}
 use Rattle.vt_scan.specs.Table.{class_of}
 use Rattle.vt_scan.specs.Run.{run}
 use Rattle.vt_scan.specs.Texts.{IsParameterText, back_with}
-use Rattle.vt_scan.proofs.Readback.{read_control, read_escape, read_written}
-use Rattle.vt_scan.proofs.Sequences.{read_csi}
+use Rattle.vt_scan.proofs.Readback.{read_control, read_escape, read_written, read_csi}
 use Rattle.vt_screen.specs.CallsOfRun.{screen_after_all, screen_in, steps_of_all}
 use Rattle.vt_screen.specs.Calls.{CallValue, UnhandledCsi}
 use Rattle.vt_screen.specs.Controls.{control_steps, escape_steps, intermediate_steps, mode_step, private_steps}
@@ -42,12 +41,11 @@ use Rattle.vt_screen.specs.declared.sgr.Reading.{Reading}
 use Rattle.vt_screen.specs.declared.sgr.Reading.TheVariants.{Set, Silent, Unhandled}
 use Rattle.vt_screen.specs.declared.sgr.Wanted.{Wanted}
 use Rattle.vt_screen.specs.declared.sgr.Wanted.TheVariants.{Any}
-use Rattle.vt_screen.specs.Internals.{IsSized}
-use Rattle.vt_screen.specs.RepeatInternals.{KeepsRoom}
+use Rattle.vt_screen.specs.Internals.{IsSized, KeepsRoom}
 use Rattle.vt_screen.specs.Repeating.{IsNarrow}
 use Rattle.vt_redraw.specs.Fits.{IsDrawn}
-use Rattle.vt_screen.proofs.Readback.{prints, shown_range}
-use Rattle.vt_screen.proofs.StepLists.{stepped_then}
+use Rattle.vt_screen.proofs.ReadOperations.{prints, shown_range}
+use Rattle.vt_screen.proofs.ReadTexts.{stepped_then}
 use Rattle.vt_screen.specs.Screen.{ScreenValue}
 use Rattle.vt_screen.specs.Steps.{Step as Action, CallBack, EraseScrollback, LineFeed, OnPage, Print, display_after, rows_scrolled_off, screen_after_scrolling_step}
 

@@ -12,27 +12,24 @@ use Rattle.vt_redraw.specs.Fits.{IsDrawn}
 use Rattle.vt_scan.specs.Automaton.{State, Step, Event, Character, CsiDispatch, start}
 use Rattle.vt_scan.specs.Run.{run}
 use Rattle.vt_scan.specs.Texts.{back_with}
-use Rattle.vt_scan.proofs.Readback.{read_text, read_written}
-use Rattle.vt_scan.proofs.Running.{run-append}
-use Rattle.vt_scan.proofs.Sequences.{read_csi}
-use Rattle.vt_scan.proofs.Written.{decimal_groups, decimal_is_parameter}
+use Rattle.vt_scan.proofs.Readback.{read_text, read_written, run-append, read_csi}
+use Rattle.vt_scan.proofs.ParameterNumbers.{decimal_groups, decimal_is_parameter}
 use Rattle.vt_screen.specs.CallsOfRun.{screen_after_all, screen_in, steps_in, steps_of_all}
 use Rattle.vt_screen.specs.Controls.{counted_step, number_or, repeated, scrolling_steps, seen_of, steps_of}
-use Rattle.vt_screen.specs.Internals.{IsSized}
+use Rattle.vt_screen.specs.Internals.{IsSized, HasRoom, KeepsRoom}
 use Rattle.vt_screen.specs.Reading.{Terminal, quiet_events, quiet_step, quiet_steps, terminal, terminal_after}
-use Rattle.vt_screen.specs.RepeatInternals.{HasRoom, KeepsRoom}
 use Rattle.vt_screen.specs.Repeating.{IsNarrow, RepeatInRows, copies, repeat_text, repetitions}
 use Rattle.vt_screen.specs.Screen.{ScreenValue}
 use Rattle.vt_screen.specs.Steps.{Step as Action, EraseScrollback, EnterAlternate, EnterFresh, LeaveAlternate, LeaveRestoring}
 use Rattle.vt_screen.specs.Steps.{CallBack, HideCursor, LineFeed, OnPage, Print, Render, Reset, RestoreCursor, SaveCursor, ScrollUp, SetMode}
 use Rattle.vt_screen.specs.Steps.{becomes_last, display_after, last_after, rows_scrolled_off, screen_after}
 use Rattle.vt_grid.specs.Scrollback.{Scrollback, scrollback_after_clear, scrollback_after_push}
-use Rattle.vt_screen.proofs.QuietSteps.{read_run}
-use Rattle.vt_screen.proofs.Readback.{prints, shown_range}
-use Rattle.vt_screen.proofs.ReadbackTexts.{IsCalm, NoCommands, reads_append, run_read}
+use Rattle.vt_screen.proofs.CallsNone.{read_run}
+use Rattle.vt_screen.proofs.ReadOperations.{prints, shown_range}
+use Rattle.vt_screen.proofs.ReadTexts.{IsCalm, NoCommands, reads_append, run_read, screen_in_then, stepped_then}
+use Rattle.vt_screen.proofs.ReadTexts.{steps_in_then}
 use Rattle.vt_screen.proofs.RepeatRooms.{keeps_narrow}
-use Rattle.vt_screen.proofs.Sized.{sized_sent, sized_stepped}
-use Rattle.vt_screen.proofs.StepLists.{screen_in_then, stepped_then, steps_in_then}
+use Rattle.vt_screen.proofs.SizeRuns.{sized_sent, sized_stepped}
 
 -- ---- sizes
 

@@ -1,38 +1,43 @@
--- In each step of a run except RIS, the rows that the main page's scrollback reports and keeps are those kept before
--- and those that scroll off, except for trailing default blanks.
+-- The rows that a run reports and keeps are those that scrolled off, and so is their text.
 use Rattle.std.proofs.Common.{◌≡◌, ℕ, Bool, true, false, List, [], ◌∷◌, ◌++◌, length, map, Option, Some, None, refl}
-use Rattle.std.proofs.Common.{sym, ap, subst, ◌∙◌, append_assoc, arith}
+use Rattle.std.proofs.Common.{sym, ap, subst, ◌∙◌, append_assoc, arith, ap₂}
 use Rattle.std.specs.Prelude.{All, IfSome, if◌then◌else◌}
 use Rattle.std.specs.List.{AllByRecursion}
 use Rattle.std.proofs.lemmas.List.{append-nil, length-replicate}
 use Rattle.vt_cells.specs.Attrs.{default_attrs}
 use Rattle.vt_cells.specs.Glyph.{columns_of}
-use Rattle.vt_rows.specs.Row.{RowValue, IsRow, blank_row, trimmed_row}
+use Rattle.vt_rows.specs.Row.{RowValue, IsRow, blank_row, trimmed_row, cells_without_end}
+use Rattle.vt_rows.specs.Basic.{Written, nothing_written, basic_text, written_after}
 use Rattle.vt_grid.specs.Page.{Page, IsPage, SameSize, blank_page, scrolled_up}
 use Rattle.vt_grid.specs.Moves.{line_feed, cursor_saved, cursor_restored}
 use Rattle.vt_grid.specs.PageStep.{page_after}
 use Rattle.vt_grid.specs.Printing.{page_after_print}
 use Rattle.vt_grid.specs.Outgoing.{printed_out, fed_out, scrolled_out}
 use Rattle.vt_grid.specs.Resize.{out_of_view}
-use Rattle.vt_grid.specs.Scrollback.{Scrollback, scrollback_after_clear, no_scrollback, scrollback_after_push, rows_reported, with_view}
-use Rattle.vt_grid.proofs.Printed.{page_printed}
+use Rattle.vt_grid.specs.Scrollback.{Scrollback, scrollback_after_clear, no_scrollback, scrollback_after_push}
+use Rattle.vt_grid.specs.Scrollback.{rows_reported, with_view}
+use Rattle.vt_grid.proofs.Carries.{page_printed}
 use Rattle.vt_grid.proofs.Pages.{page_blank, page_cursor_saved, page_cursor_restored, page_line_feed, page_scrolled_up}
 use Rattle.vt_screen.specs.Calls.{CallValue, OnScroll}
-use Rattle.vt_screen.specs.Pages.{fresh_page, page_aside, screen_after_enter, entered_fresh, left_alternate, left_restored, screen_after_save, screen_after_restore}
+use Rattle.vt_screen.specs.Pages.{fresh_page, page_aside, screen_after_enter, entered_fresh, left_alternate}
+use Rattle.vt_screen.specs.Pages.{left_restored, screen_after_save, screen_after_restore}
 use Rattle.vt_screen.specs.Screen.{IsPrintable, IsScreen, ScreenValue, fresh_screen, scrolled_back, with_page}
 use Rattle.vt_screen.specs.Steps.{Step, Print, LineFeed, ScrollUp, OnPage, SaveCursor, RestoreCursor, EnterAlternate}
 use Rattle.vt_screen.specs.Steps.{EnterFresh, LeaveAlternate, LeaveRestoring, Reset, EraseScrollback, Render}
 use Rattle.vt_screen.specs.Steps.{HideCursor, SetMode, CallBack, becomes_last, screen_after, display_after}
 use Rattle.vt_screen.specs.Streamed.{AreSameTrimmed, HasWideFlags, row_of_call, rows_of_calls, sent_off, sent_off_all}
+use Rattle.vt_screen.specs.Streamed.{streamed_text}
 use Rattle.vt_screen.specs.CallsOfRun.{calls_of, calls_of_all, screen_after_all}
-use Rattle.vt_screen.proofs.TrailingBlanks.{IsWide}
-use Rattle.vt_screen.proofs.TrailingBlanksScrollback.{AreSound, alike_pushed, alike_then, alike_viewed, sound_pushed}
-use Rattle.vt_screen.proofs.TrailingBlanksScrollback.{sound_viewed, wide_pushed, wide_viewed}
-use Rattle.vt_screen.proofs.Inside.{inside_page}
-use Rattle.vt_screen.proofs.PageSteps.{page_page_after, same_page_after}
-use Rattle.vt_screen.proofs.Asides.{rows_fed_out, rows_printed_out, rows_scrolled_out}
-use Rattle.vt_screen.proofs.Sizes.{same_back, same_itself, same_through, same_cursor_saved, same_cursor_restored}
-use Rattle.vt_screen.proofs.Sizes.{same_line_feed, same_printed, same_scrolled_up}
+use Rattle.vt_screen.specs.Capture.{all_rows, basic_texts, written_after_all}
+use Rattle.vt_screen.proofs.TrailingBlanks.{IsWide, AreSound, alike_pushed, alike_then, alike_viewed, sound_pushed}
+use Rattle.vt_screen.proofs.TrailingBlanks.{sound_viewed, wide_pushed, wide_viewed, trimmed_twice}
+use Rattle.vt_screen.proofs.SizeCursors.{inside_page, page_page_after, same_page_after}
+use Rattle.vt_screen.proofs.StepInvariant.{rows_fed_out, rows_printed_out, rows_scrolled_out}
+use Rattle.vt_screen.proofs.SizePage.{same_back, same_itself, same_through, same_cursor_saved, same_cursor_restored}
+use Rattle.vt_screen.proofs.SizePage.{same_line_feed, same_printed, same_scrolled_up}
+
+-- ==== In each step of a run except RIS, the rows that the main page's scrollback reports and keeps are those kept
+-- before and those that scroll off, except for trailing default blanks.
 
 -- The step's characters satisfy Q, and it resets the screen only if R holds.
 abbrev pub IsAmong : (ℕ → Type 0) → Type 0 → Step → Type 0
@@ -387,3 +392,63 @@ held_fresh rows cols capacity sound = record {
   wide = λ i d h. absurd (omega (arith, h));
   last = tt;
 }
+
+-- ==== The text of the reported rows, followed by a full capture, is the text of all rows that scrolled off and of the
+-- page.
+
+-- ---- rows that differ only in blanks at their ends have one text
+
+cells_twice : (row : RowValue) → cells_without_end (cells_without_end row.cells) ≡ cells_without_end row.cells
+cells_twice row = ap (λ (r : RowValue). r.cells) (trimmed_twice row)
+
+text_trimmed : (w : Written) (row : RowValue) → basic_text w (trimmed_row row) ≡ basic_text w row
+text_trimmed w row = rw (cells_twice row) refl
+
+after_trimmed : (w : Written) (row : RowValue) → written_after w (trimmed_row row) ≡ written_after w row
+after_trimmed w row = rw (cells_twice row) refl
+
+texts_trimmed : (w : Written) (rows : List RowValue) → basic_texts w (map trimmed_row rows) ≡ basic_texts w rows
+texts_trimmed w [] = refl
+texts_trimmed w (row ∷ rows) =
+    ap₂ (λ (xs ys : List ℕ). xs ++ ys) (text_trimmed w row)
+    (ap (λ (v : Written). basic_texts v (map trimmed_row rows)) (after_trimmed w row)
+    ∙ texts_trimmed (written_after w row) rows)
+
+pub same_texts : (w : Written) (rows others : List RowValue) →
+    AreSameTrimmed rows others → basic_texts w rows ≡ basic_texts w others
+same_texts w rows others e = sym (texts_trimmed w rows) ∙ (ap (basic_texts w) e ∙ texts_trimmed w others)
+
+-- ---- concatenated lists
+
+pub texts_then : (w : Written) (xs ys : List RowValue) →
+    basic_texts w (xs ++ ys) ≡ basic_texts w xs ++ basic_texts (written_after_all w xs) ys
+texts_then w [] ys = refl
+texts_then w (x ∷ xs) ys =
+    ap (λ (text : List ℕ). basic_text w x ++ text) (texts_then (written_after w x) xs ys)
+    ∙ sym (append_assoc (basic_text w x) (basic_texts (written_after w x) xs)
+    (basic_texts (written_after_all (written_after w x) xs) ys))
+
+pub after_then : (w : Written) (xs ys : List RowValue) →
+    written_after_all w (xs ++ ys) ≡ written_after_all (written_after_all w xs) ys
+after_then w [] ys = refl
+after_then w (x ∷ xs) ys = after_then (written_after w x) xs ys
+
+above_main : (b : Bool) (z : Scrollback) → b ≡ false → (if b then no_scrollback 0 else z) ≡ z
+above_main b z e = rw e refl
+
+-- If the first screen has no scrollback and the last one has its main page active, the streamed text is the text of the
+-- rows that scrolled off and of the page.
+pub streamed_is : (calls : List CallValue) (gone : List RowValue) (s t : ScreenValue)
+    → Streamed calls gone s t → s.scrollback.rows ≡ [] → t.is_alternate ≡ false
+    → streamed_text calls t ≡ basic_texts nothing_written (gone ++ t.page.rows)
+streamed_is calls gone s t k none main =
+    let told = rows_of_calls calls in
+    let rows : told ++ all_rows t ≡ (told ++ t.scrollback.rows) ++ t.page.rows
+    = ap (λ (z : Scrollback). told ++ (z.rows ++ t.page.rows)) (above_main t.is_alternate t.scrollback main)
+    ∙ sym (append_assoc told t.scrollback.rows t.page.rows) in
+    let alike : AreSameTrimmed (told ++ t.scrollback.rows) gone =
+    k.alike ∙ ap (λ (xs : List RowValue). map trimmed_row (xs ++ gone)) none in
+    sym (texts_then nothing_written told (all_rows t))
+    ∙ (ap (basic_texts nothing_written) rows
+    ∙ same_texts nothing_written ((told ++ t.scrollback.rows) ++ t.page.rows) (gone ++ t.page.rows)
+    (alike_then (told ++ t.scrollback.rows) gone t.page.rows t.page.rows alike refl))

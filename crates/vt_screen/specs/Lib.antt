@@ -1,38 +1,37 @@
-pub mod Calls
-pub mod Meanings
-pub mod Sgr
+-- Screens and their steps
 pub mod Screen
-pub mod TextResults
 pub mod Pages
 pub mod ModeStep
+pub mod Sgr
 pub mod Steps
+pub mod Calls
+pub mod Meanings
 pub mod Controls
-pub mod Texts
 pub mod Run
+pub mod CallsOfRun
+pub mod Texts
+-- What output does to terminals that read it
 pub mod Reading
 pub mod Shown
 pub mod AnyRegion
-pub mod RowsShown
-pub mod Touched
+pub mod Again
 pub mod Chain
-pub mod Reports
-pub mod Internals
-pub mod CallsOfRun
-pub mod Selectors
-pub mod Contents
-pub mod RowItems
-pub mod InputTexts
-pub mod States
-pub mod Capture
 pub mod MadeOf
 pub mod Escapes
-pub mod Again
+pub mod Touched
+pub mod TextResults
+-- Texts of rows
+pub mod Contents
+pub mod Capture
 pub mod Streamed
-pub mod Repeating
-pub mod RepeatInternals
-pub mod Portable
+pub mod RowsShown
+pub mod Selectors
+-- Options
+pub mod States
 pub mod Diffs
-pub mod DiffInternals
-pub mod StatesWith
+pub mod Repeating
 pub mod ShortMoves
 pub mod Gaps
+pub mod Portable
+-- For models, private contracts and proofs only
+pub mod Internals

@@ -1,16 +1,34 @@
 -- The output that draws each row of a screen on another terminal, and its effect on the terminals that read it.
-use Rattle.std.specs.Prelude.{◌≡◌, ◌≢◌, ℕ, ◌+◌, ◌-◌, ◌<◌, ◌≤◌, min, false, true, List, [], length, map, slice_index_or}
+use Rattle.std.specs.Prelude.{◌≡◌, ℕ, List, [], ◌∷◌, Option, None, Some, Result, String, IfErr, IfOk, string_bytes, ◌≢◌}
+use Rattle.std.specs.Prelude.{◌+◌, ◌-◌, ◌<◌, ◌≤◌, min, false, true, length, map, slice_index_or}
 use Rattle.std.specs.List.{range_with_len}
+use Rattle.vt_cells.specs.declared.error.Error.{Error}
+use Rattle.vt_cells.specs.declared.error.Error.TheVariants.{OutOfMemory}
 use Rattle.vt_cells.specs.Attrs.{default_attrs}
 use Rattle.vt_cells.specs.Op.{bytes_of_all}
 use Rattle.vt_rows.specs.Cells.{ends_blank}
 use Rattle.vt_rows.specs.Row.{RowValue, blank_row}
 use Rattle.vt_grid.specs.Page.{row_at}
+use Rattle.vt_redraw.specs.Refusals.{RefusedOnlyIfSome}
 use Rattle.vt_redraw.specs.Items.{CutsNone, is_linked, item_of_difference, item_of_redraw, with_range}
 use Rattle.vt_redraw.specs.Locality.{row_of_picture}
 use Rattle.vt_redraw.specs.Picture.{Picture}
 use Rattle.vt_screen.specs.Screen.{ScreenValue}
 use Rattle.vt_screen.specs.Shown.{IsReader, Turns, display}
+
+-- ==== The items of an iterator over the rows of a screen.
+
+-- The effect of a call to an iterator's `next`: the call returns the next string or, if that string is not empty and
+-- cannot be allocated, skips it and returns an error. After the last string, every call returns `None`.
+module _ {S A : Type 0} (left : S → List (List ℕ)) where
+  abbrev pub GivesText : S → Option (Result (String A) Error) → S → Type 0
+  GivesText old None new = (left old ≡ []) × (left new ≡ [])
+  GivesText old (Some item) new =
+      (text : List ℕ) × (left old ≡ text ∷ left new)
+      × IfOk item (λ string. string_bytes string ≡ text) × IfErr item (λ error. error ≡ OutOfMemory)
+      × RefusedOnlyIfSome item text
+
+-- ==== The output that draws each row of a screen on another terminal, and its effect on the terminals that read it.
 
 -- The row at the given index of a screen's picture.
 abbrev pub shown_row : ScreenValue → ℕ → RowValue

@@ -11,9 +11,8 @@ use Rattle.vt_grid.specs.declared.page_step.PageStep.TheVariants.{EraseRest, Era
 use Rattle.vt_grid.specs.declared.page_step.PageStep.TheVariants.{InsertChars, DeleteChars, InsertLines, DeleteLines}
 use Rattle.vt_grid.specs.declared.page_step.PageStep.TheVariants.{ScrollDown}
 use Rattle.vt_grid.specs.Printing.{wraps}
-use Rattle.vt_redraw.specs.Locality.{IsLocal}
+use Rattle.vt_redraw.specs.Locality.{IsLocal, Changes, CharTouches}
 use Rattle.vt_redraw.specs.Steady.{IsSteady}
-use Rattle.vt_redraw.specs.Touching.{Changes, CharTouches}
 use Rattle.vt_scan.specs.Automaton.{Event, start, step_in}
 use Rattle.vt_screen.specs.Reading.{Terminal, terminal, quiet_step, quiet_steps, read_byte}
 use Rattle.vt_screen.specs.Screen.{ScreenValue}

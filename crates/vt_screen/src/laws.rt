@@ -20,7 +20,7 @@ ghost use Rattle.vt_screen.specs.Pages.{screen_after_resize};
 ghost use Rattle.vt_screen.specs.Screen.{IsScreen, ScreenValue, fresh_screen, scrolled_back, visible_row, visible_rows};
 ghost use Rattle.vt_screen.specs.Selectors.{HasNoSelectors};
 ghost use Rattle.vt_screen.specs.Shown.{ShowSamePage, ShowsNoSelector, ShowsOwnPage, display};
-ghost use Rattle.vt_screen.specs.StatesWith.{state_diff_controls};
+ghost use Rattle.vt_screen.specs.States.{state_diff_controls};
 ghost use Rattle.vt_screen.specs.Steps.{EraseScrollback, screen_after};
 ghost use Rattle.vt_screen.specs.Streamed.{AreSameTrimmed, HasNoRis, HasWideFlags, without_scrollback, rows_of_calls, sent_off_in};
 ghost use Rattle.vt_screen.specs.CallsOfRun.{calls_in, screen_in};

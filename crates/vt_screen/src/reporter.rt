@@ -15,7 +15,7 @@ pub struct Reporter<'a, CB: Callbacks> {
 }
 
 impl<'a, CB: Callbacks> Leaving for Reporter<'a, CB> {
-    ghost use Rattle.vt_screen.specs.Reports.{Reports};
+    ghost use Rattle.vt_screen.specs.Internals.{Reports};
 
     ghost leaves = { Reports CB.does };
 

@@ -45,7 +45,7 @@ impl<'a> Rows<'a> {
 impl<'a> Iterator for Rows<'a> {
     ghost use Rattle.std.specs.Iterator.{item_count};
     ghost use Rattle.vt_screen.specs.Contents.{rows_left};
-    ghost use Rattle.vt_screen.specs.RowItems.{GivesText};
+    ghost use Rattle.vt_screen.specs.RowsShown.{GivesText};
 
     type Item = Result<String, Error>;
 
@@ -53,7 +53,7 @@ impl<'a> Iterator for Rows<'a> {
 
     ghost remaining = { item_count rows_left };
 
-    #[tactic(auto, using(crate::proofs::ContentTexts::texts_more, crate::proofs::ContentTexts::texts_done))]
+    #[tactic(auto, using(crate::proofs::MadeContents::texts_more, crate::proofs::MadeContents::texts_done))]
     fn next(&mut self) -> Option<Result<String, Error>> {
         let (rows, _) = self.screen.size();
         if self.row >= rows.get() {

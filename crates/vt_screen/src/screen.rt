@@ -98,7 +98,7 @@ impl Drop for Screen {
 /// # Errors
 ///
 /// Returns `Error::OutOfMemory` if its rows cannot be allocated.
-#[tactic(auto, using(crate::proofs::Kept::kept_blank))]
+#[tactic(auto, using(crate::proofs::StepInvariant::kept_blank))]
 pub fn new_screen(
     alloc: Global,
     rows: NonZeroU16,

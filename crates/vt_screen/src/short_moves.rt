@@ -112,7 +112,7 @@ fn split_element(text: &str) -> Option<(Element, &str, &str)>
 ///
 /// Returns `Error::OutOfMemory` if the string cannot grow.
 #[inline]
-#[tactic(auto, using(crate::proofs::KnownSteps::gap_up_to, crate::proofs::KnownSteps::element_up_to))]
+#[tactic(auto, using(crate::proofs::ShortMoves::gap_up_to, crate::proofs::ShortMoves::element_up_to))]
 fn add_movement<'a>(
     short: &mut String,
     prev: &View<'_>,
@@ -353,7 +353,7 @@ fn after_other(from: Pos, c: char, size: Size) -> Option<Pos>
 /// Returns whether `c` is a box drawing character or a block element. These take one column, so the
 /// width table need not be searched for the most frequent characters that are not ASCII.
 #[inline(always)]
-#[tactic(auto, using(vt_scan::proofs::NarrowBlocks::blocks_narrow))]
+#[tactic(auto, using(vt_scan::proofs::Characters::blocks_narrow))]
 fn is_box_drawing(c: char) -> bool
     ensures { IsTrue result → columns_of c ≡ Some 1 }
 {
@@ -427,7 +427,7 @@ fn shorter_route(known: Known, to: Pos, cols: u16, len: usize) -> Option<Route>
 /// Returns the length, in bytes, of CUP without a column, which moves the cursor to the first column
 /// of row `row` (counted from 0).
 #[inline]
-#[tactic(auto, using(crate::proofs::RouteLengths::row_start_length))]
+#[tactic(auto, using(crate::proofs::ReadRoutes::row_start_length))]
 fn row_start_len(row: u16) -> usize
     ensures { result ≡ length (row_start_text row) }
 {

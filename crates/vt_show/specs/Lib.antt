@@ -1,4 +1,3 @@
-pub mod Endings
-pub mod Arguments
+pub mod Program
 pub mod Shown
 pub mod Internals

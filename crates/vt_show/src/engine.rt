@@ -4,7 +4,7 @@ ghost use Rattle.std.specs.Int.NonZero.{non_zero_u16_get};
 ghost use Rattle.std.specs.Io.KnownBytes.{Appends, IsAtEnd, Keeps};
 ghost use Rattle.std.specs.Prelude.{◌≡◌, ◌≢◌, ◌↔◌, map, true, None, Some, IfOk, IsErr, OnErr, OnOk, Err};
 ghost use Rattle.std.specs.Prelude.{string_bytes};
-ghost use Rattle.vt_show.specs.Arguments.{AskFor, AskForNothing};
+ghost use Rattle.vt_show.specs.Program.{AskFor, AskForNothing};
 ghost use Rattle.vt_show.specs.Internals.{HasReadBytes};
 ghost use Rattle.vt_show.specs.Shown.{AppendsPart, IsOfMode, ShowsOrFails, screen_text};
 ghost use Rattle.vt_show.specs.declared.faults.Fault.{Fault};

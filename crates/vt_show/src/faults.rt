@@ -1,7 +1,7 @@
 //! The faults that can end a run, with their messages and exit statuses.
 
 ghost use Rattle.std.specs.Prelude.{◌≡◌};
-ghost use Rattle.vt_show.specs.Endings.{line_of, status_of};
+ghost use Rattle.vt_show.specs.Program.{line_of, status_of};
 
 /// The reason why a run of the program failed.
 #[derive(Clone, Copy, PartialEq, Eq, Debug)]

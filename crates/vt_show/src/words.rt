@@ -2,7 +2,7 @@
 
 ghost use Rattle.std.specs.Int.NonZero.{non_zero_u16_get};
 ghost use Rattle.std.specs.Prelude.{◌≡◌, ◌==◌, ℕ, map, slice_index, string_bytes, IfErr, IfNone, IfSome};
-ghost use Rattle.vt_show.specs.Arguments.{AskForNothing, AsksToShow, IsSize, name_of};
+ghost use Rattle.vt_show.specs.Program.{AskForNothing, AsksToShow, IsSize, name_of};
 ghost use Rattle.vt_show.specs.declared.faults.Fault.{Fault};
 ghost use Rattle.vt_show.specs.declared.mode.Mode.{Mode};
 

@@ -2,7 +2,7 @@
 
 ghost use Rattle.std.specs.Prelude.{◌≡◌, ◌≢◌, ◌<◌, ◌≤◌, false, Some, if◌then◌else◌, encode_utf8};
 ghost use Rattle.vt_cells.specs.Cell.{blank, glyph, right_half, is_blank, is_right_half, cell_with_mark, cell_made_wide, cell_with_attrs, IsCell};
-ghost use Rattle.vt_cells.specs.CellInternals.{cell_as_glyph};
+ghost use Rattle.vt_cells.specs.Internals.{cell_as_glyph};
 ghost use Rattle.vt_cells.specs.Glyph.{columns_of};
 
 use super::making::{ascii, blank, glyph, push_char, right_half, space};

@@ -3,7 +3,7 @@
 ghost use Rattle.std.specs.Prelude.{◌≡◌, ◌+◌, ◌++◌, ◌<◌, ◌≤◌, length, OnErr, OnOk};
 ghost use Rattle.vt_cells.specs.Op as op;
 ghost use Rattle.vt_cells.specs.Op.{bytes_of, change_text};
-ghost use Rattle.vt_cells.specs.BufferInternals.{buffered_text};
+ghost use Rattle.vt_cells.specs.Internals.{buffered_text};
 ghost use Rattle.vt_cells.specs.Sinks.{IsStopped};
 
 use crate::attrs::Attrs;
@@ -83,7 +83,7 @@ impl ChangeAttrs {
 impl BufWrite for ChangeAttrs {
     ghost bytes = { λ it. bytes_of (op.ChangeAttrs it.was it.new) };
 
-    #[tactic(auto, unfolding(crate::specs::BufferInternals::buffered_text))]
+    #[tactic(auto, unfolding(crate::specs::Internals::buffered_text))]
     fn write_buf<S: Sink>(&self, sink: &mut S) -> Result<(), S::Error> {
         let mut buffer = Buffer::new();
         self.push(&mut buffer);

@@ -1,7 +1,7 @@
 //! Sequences that move the cursor to a position, or to the right within its row.
 
 ghost use Rattle.std.specs.Prelude.{◌≡◌, ◌+◌, ◌++◌, ◌≤◌, length};
-ghost use Rattle.vt_cells.specs.ChangeInternals.{move_text};
+ghost use Rattle.vt_cells.specs.Internals.{move_text};
 ghost use Rattle.vt_cells.specs.Op as op;
 ghost use Rattle.vt_cells.specs.Op.{bytes_of};
 
@@ -21,7 +21,7 @@ pub struct MoveTo {
 impl BufWrite for MoveTo {
     ghost bytes = { λ it. bytes_of (op.MoveTo it.pos.row it.pos.col) };
 
-    #[tactic(auto, unfolding(crate::specs::BufferInternals::buffered_text))]
+    #[tactic(auto, unfolding(crate::specs::Internals::buffered_text))]
     fn write_buf<S: Sink>(&self, sink: &mut S) -> Result<(), S::Error> {
         let mut buffer = Buffer::new();
         buffer.push_place(self.pos);
@@ -82,7 +82,7 @@ impl MoveFromTo {
 impl BufWrite for MoveFromTo {
     ghost bytes = { λ it. move_text it.from it.to };
 
-    #[tactic(auto, unfolding(crate::specs::BufferInternals::buffered_text))]
+    #[tactic(auto, unfolding(crate::specs::Internals::buffered_text))]
     fn write_buf<S: Sink>(&self, sink: &mut S) -> Result<(), S::Error> {
         let mut buffer = Buffer::new();
         self.push(&mut buffer);

@@ -15,7 +15,7 @@ impl Buffer {
     /// Appends the ASCII character `lead` and the decimal digits of `number`. The buffer must have
     /// room for four bytes.
     #[inline(always)]
-    #[tactic(auto, using(crate::proofs::ChangeTexts::digits_appended))]
+    #[tactic(auto, using(crate::proofs::Texts::digits_appended))]
     pub fn push_number(&mut self, lead: u8, number: u8)
         requires room { length self.old + 4 ≤ 256 }
         requires ascii { lead < 128 }
@@ -45,7 +45,7 @@ impl Buffer {
     /// Appends the ASCII character `lead` and a two-digit decimal number, given by its digits:
     /// `tens` from 1 to 9, and `unit` from 0 to 9. The buffer must have room for four bytes.
     #[inline(always)]
-    #[tactic(auto, using(crate::proofs::ChangeTexts::digits_appended))]
+    #[tactic(auto, using(crate::proofs::Texts::digits_appended))]
     pub(crate) fn push_tens(&mut self, lead: u8, tens: u8, unit: u8)
         requires room { length self.old + 4 ≤ 256 }
         requires ascii { lead < 128 }
@@ -142,7 +142,7 @@ impl Buffer {
 ///
 /// Returns the sink's error. Part of the sequence may have been written by then. The call never
 /// fails if `count` is 0.
-#[tactic(auto, unfolding(crate::specs::BufferInternals::buffered_text))]
+#[tactic(auto, unfolding(crate::specs::Internals::buffered_text))]
 pub fn write_counted<S: Sink>(sink: &mut S, count: u16, last: u8) -> Result<(), S::Error>
     requires { last < 128 }
     ensures text { OnOk result (S.text sink.new ≡ S.text sink.old ++ counted count last) }

@@ -3,7 +3,7 @@
 ghost use Rattle.std.specs.Prelude.{◌≡◌, ◌+◌, ◌<◌, ◌≤◌, [], ◌∷◌, ◌++◌};
 ghost use Rattle.std.specs.Prelude.{length, if◌then◌else◌};
 ghost use Rattle.vt_cells.specs.Attrs.{same_bool, same_color, same_intensity};
-ghost use Rattle.vt_cells.specs.ChangeInternals.{AppendsNumbers, style_part, switches_part};
+ghost use Rattle.vt_cells.specs.Internals.{AppendsNumbers, style_part, switches_part};
 ghost use Rattle.vt_cells.specs.Op.{background_numbers, change_numbers, csi};
 ghost use Rattle.vt_cells.specs.Op.{foreground_numbers, intensity_number, semicolon_list, part};
 
@@ -45,7 +45,7 @@ impl Buffer {
     /// `was`. `lead` is the character before the first parameter. Returns the character to put
     /// before the next parameter: `lead` if nothing was appended, otherwise `;`.
     #[inline(always)]
-    #[tactic(auto, using(crate::proofs::ChangeTexts::numbers_appended), unfolding(crate::specs::Op::foreground_numbers))]
+    #[tactic(auto, using(crate::proofs::Texts::numbers_appended), unfolding(crate::specs::Op::foreground_numbers))]
     fn push_foreground(&mut self, lead: u8, was: Attrs, new: Attrs) -> u8
         requires room { length self.old + 20 ≤ 256 }
         requires ascii { lead < 128 }
@@ -69,7 +69,7 @@ impl Buffer {
     /// `was`. `lead` is the character before the first parameter. Returns the character to put
     /// before the next parameter: `lead` if nothing was appended, otherwise `;`.
     #[inline(always)]
-    #[tactic(auto, using(crate::proofs::ChangeTexts::numbers_appended), unfolding(crate::specs::Op::background_numbers))]
+    #[tactic(auto, using(crate::proofs::Texts::numbers_appended), unfolding(crate::specs::Op::background_numbers))]
     fn push_background(&mut self, lead: u8, was: Attrs, new: Attrs) -> u8
         requires room { length self.old + 20 ≤ 256 }
         requires ascii { lead < 128 }
@@ -146,7 +146,7 @@ impl Buffer {
     /// `lead` is the character before the parameter. Returns the character to put before the next
     /// parameter: `lead` if nothing was appended, otherwise `;`.
     #[inline(always)]
-    #[tactic(auto, using(crate::proofs::ChangeTexts::numbers_appended))]
+    #[tactic(auto, using(crate::proofs::Texts::numbers_appended))]
     fn push_switch(&mut self, lead: u8, was: bool, new: bool, on: u8, off: u8) -> u8
         requires room { length self.old + 4 ≤ 256 }
         requires ascii { lead < 128 }

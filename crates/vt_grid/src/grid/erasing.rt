@@ -61,7 +61,7 @@ impl Grid {
 
     /// Erases from the start of the page through the cursor, or through the end of the cursor's row
     /// if a wrap is pending (ED 1).
-    #[tactic(auto, using(crate::proofs::Blanking::page_erased_above), unfolding(crate::specs::Erasing::erased_above))]
+    #[tactic(auto, using(crate::proofs::Shifting::page_erased_above), unfolding(crate::specs::Erasing::erased_above))]
     pub fn erase_all_backward(&mut self, attrs: Attrs)
         ensures { self.new ≡ erased_above attrs self.old }
     {

@@ -63,7 +63,7 @@ pub enum CursorMove {
 
 impl Grid {
     /// Moves the cursor as `cursor_move` specifies; see the variants of [`CursorMove`].
-    #[tactic(auto, using(crate::proofs::Regions::page_moved))]
+    #[tactic(auto, using(crate::proofs::Pages::page_moved))]
     #[inline(always)]
     pub fn move_cursor(&mut self, cursor_move: CursorMove)
         ensures { self.new ≡ moved cursor_move self.old }
@@ -116,7 +116,7 @@ impl Grid {
     }
 
     /// Turns origin mode on or off, and moves the cursor to its home position (DECOM).
-    #[tactic(auto, using(crate::proofs::Regions::page_origin))]
+    #[tactic(auto, using(crate::proofs::Pages::page_origin))]
     pub fn set_origin_mode(&mut self, on: bool)
         ensures { self.new ≡ origin_set on self.old }
     {

@@ -33,7 +33,7 @@ impl Grid {
     ///
     /// Returns [`Error::OutOfMemory`] if memory for scrollback cannot be allocated. On error,
     /// nothing is changed and no row is reported.
-    #[tactic(auto, using(crate::proofs::Dispatch::printed_cases, crate::proofs::Outgoing::out_cases))]
+    #[tactic(auto, using(crate::proofs::Printing::printed_cases, crate::proofs::Printing::out_cases))]
     #[inline(always)]
     pub fn print_columns<L: Leaving>(
         &mut self,

@@ -26,7 +26,7 @@ impl Grid {
     ///
     /// Returns [`Error::OutOfMemory`] if memory for scrollback cannot be allocated. On error,
     /// nothing is changed and no row is reported.
-    #[tactic(auto, using(crate::proofs::Prints::region_order))]
+    #[tactic(auto, using(crate::proofs::Printing::region_order))]
     pub fn scroll_up<L: Leaving>(
         &mut self,
         count: u16,
@@ -94,7 +94,7 @@ impl Grid {
     ///
     /// Returns [`Error::OutOfMemory`] if memory for scrollback cannot be allocated. On error,
     /// nothing is changed and no row is reported.
-    #[tactic(auto, using(crate::proofs::Prints::page_left), unfolding(crate::specs::Printing::wrapped_page))]
+    #[tactic(auto, using(crate::proofs::Printing::page_left), unfolding(crate::specs::Printing::wrapped_page))]
     #[inline(never)]
     pub(super) fn wrap<L: Leaving>(
         &mut self,

@@ -27,7 +27,7 @@ impl Grid {
     /// that move past the bottom are lost.
     ///
     /// The wrapped flag of the region's bottom row is cleared.
-    #[tactic(auto, using(crate::proofs::Prints::region_order))]
+    #[tactic(auto, using(crate::proofs::Printing::region_order))]
     pub fn scroll_down(&mut self, count: u16)
         ensures { self.new ≡ scrolled_down count self.old }
     {

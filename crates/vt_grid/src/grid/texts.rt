@@ -2,11 +2,9 @@
 //! run.
 
 ghost use Rattle.std.specs.Prelude.{◌≡◌, ◌+◌, ◌*◌, ◌<◌, ◌≤◌, length};
-ghost use Rattle.vt_rows.specs.Texts.{IsNarrowText, IsPrintableAscii};
-ghost use Rattle.vt_rows.specs.WideTexts.{IsWideText};
+ghost use Rattle.vt_rows.specs.Texts.{IsNarrowText, IsPrintableAscii, IsWideText};
 ghost use Rattle.vt_grid.specs.Page.{IsPage};
-ghost use Rattle.vt_grid.specs.Texts.{printed_text, text_put};
-ghost use Rattle.vt_grid.specs.WideTexts.{wide_text_put};
+ghost use Rattle.vt_grid.specs.Texts.{printed_text, text_put, wide_text_put};
 
 use super::Grid;
 use vt_cells::Attrs;

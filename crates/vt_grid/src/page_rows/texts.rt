@@ -2,8 +2,7 @@
 
 ghost use Rattle.std.specs.Prelude.{◌≡◌, ◌+◌, ◌*◌, ◌<◌, ◌≤◌, length};
 ghost use Rattle.vt_rows.specs.Cells.{IsPaired};
-ghost use Rattle.vt_rows.specs.Texts.{IsNarrowText, IsPrintableAscii, put_text};
-ghost use Rattle.vt_rows.specs.WideTexts.{IsWideText, put_wide_text};
+ghost use Rattle.vt_rows.specs.Texts.{IsNarrowText, IsPrintableAscii, put_text, IsWideText, put_wide_text};
 ghost use Rattle.vt_grid.specs.PageRows.{page_row, with_row_cells};
 
 use super::PageRows;

@@ -62,7 +62,7 @@ fn write_line_end<S: Sink>(sink: &mut S, is_due: bool) -> Result<(), S::Error>
 
 /// Writes the text of `cells`, with an SGR sequence wherever the attributes change. `attrs` are the
 /// attributes in effect before the text. Returns the attributes in effect after it.
-#[tactic(auto, using(vt_cells::proofs::Buffers::nothing_gathered))]
+#[tactic(auto, using(vt_cells::proofs::Sinks::nothing_gathered))]
 fn write_cells<S: Sink>(sink: &mut S, cells: &[Cell], attrs: Attrs) -> Result<Attrs, S::Error>
     ensures text { OnOk result (S.text sink.new ≡ S.text sink.old ++ cells_text attrs cells.now) }
     ensures attrs { IfOk result (λ last. last ≡ attrs_after_all attrs cells.now) }
@@ -86,7 +86,7 @@ fn write_cells<S: Sink>(sink: &mut S, cells: &[Cell], attrs: Attrs) -> Result<At
 /// A default blank is written without a change of attributes. Nothing is appended for a
 /// continuation cell.
 #[inline]
-#[tactic(auto, using(crate::proofs::BasicTexts::right_adds, crate::proofs::BasicTexts::right_keeps))]
+#[tactic(auto, using(crate::proofs::RowTexts::right_adds, crate::proofs::RowTexts::right_keeps))]
 fn add_cell<S: Sink>(
     sink: &mut S,
     buffer: &mut Buffer,
@@ -115,7 +115,7 @@ fn add_cell<S: Sink>(
 /// Returns whether a cell is written without an SGR sequence, that is, whether it is a default
 /// blank, a continuation cell, or a cell with `attrs`, the attributes written last.
 #[inline]
-#[tactic(auto, using(crate::proofs::BasicTexts::attrs_kept))]
+#[tactic(auto, using(crate::proofs::RowTexts::attrs_kept))]
 fn keeps_attrs(cell: &Cell, attrs: &Attrs) -> bool
     ensures yes { result ≡ true →
         (attrs_after attrs.now cell.now ≡ attrs.now) × (change_text attrs.now (attrs_after attrs.now cell.now) ≡ []) }

@@ -2,9 +2,8 @@
 
 ghost use Rattle.std.specs.Prelude.{◌≡◌, ◌≤◌, ◌*◌, All, length, map, take};
 ghost use Rattle.vt_scan.specs.Automaton.{Character};
-ghost use Rattle.vt_scan.specs.NarrowTexts.{IsNarrowCharacter};
+ghost use Rattle.vt_scan.specs.Texts.{IsNarrowCharacter, IsWideCharacter};
 ghost use Rattle.vt_scan.specs.Scanner.{FeedsAll};
-ghost use Rattle.vt_scan.specs.WideTexts.{IsWideCharacter};
 
 use super::Scanner;
 use crate::narrow::narrow_characters;

@@ -63,7 +63,7 @@ impl<'a> RowsDiff<'a> {
 
 impl<'a> Iterator for RowsDiff<'a> {
     ghost use Rattle.std.specs.Iterator.{item_count};
-    ghost use Rattle.vt_screen.specs.RowItems.{GivesText};
+    ghost use Rattle.vt_screen.specs.RowsShown.{GivesText};
 
     type Item = Result<String, Error>;
 
@@ -71,7 +71,7 @@ impl<'a> Iterator for RowsDiff<'a> {
 
     ghost remaining = { item_count (λ texts. texts) };
 
-    #[tactic(auto, using(crate::proofs::RowTexts::texts_more, crate::proofs::RowTexts::texts_done))]
+    #[tactic(auto, using(crate::proofs::ReadRows::texts_more, crate::proofs::ReadRows::texts_done))]
     fn next(&mut self) -> Option<Result<String, Error>> {
         let row = self.row;
         let (rows, _) = self.screen.size();

@@ -112,7 +112,7 @@ impl Screen {
     ///     println!("{}", text?);
     /// }
     /// ```
-    #[tactic(auto, using(crate::proofs::ContentTexts::shown_rows))]
+    #[tactic(auto, using(crate::proofs::MadeContents::shown_rows))]
     pub fn rows(&self, start: u16, width: u16) -> Rows<'_>
         ensures texts { rows_left result ≡ row_texts start (start + width) (visible_rows self.now) }
         ensures controls { (r : ℕ) → IsMadeOf [] plain_controls (text_at (rows_left result) r) }
@@ -144,7 +144,7 @@ impl Screen {
     }
 
     /// Writes the text of all displayed rows, including newlines.
-    #[tactic(auto, using(crate::proofs::ContentTexts::lines_more, crate::proofs::ContentTexts::lines_done))]
+    #[tactic(auto, using(crate::proofs::MadeContents::lines_more, crate::proofs::MadeContents::lines_done))]
     fn write_lines<S: Sink>(&self, sink: &mut S) -> Result<(), S::Error>
         ensures { OnOk result
             (S.text sink.new ≡ S.text sink.old ++ lines_of self.now.page.width false (visible_rows self.now)) }
@@ -163,7 +163,7 @@ impl Screen {
 
     /// Writes the text from `start` up to but not including `end`. Rows that aren't displayed have
     /// no text.
-    #[tactic(auto, using(crate::proofs::ContentTexts::parts_more, crate::proofs::ContentTexts::parts_done))]
+    #[tactic(auto, using(crate::proofs::MadeContents::parts_more, crate::proofs::MadeContents::parts_done))]
     fn write_between<S: Sink>(&self, sink: &mut S, start: Pos, end: Pos) -> Result<(), S::Error>
         ensures text { OnOk result
             (S.text sink.new ≡ S.text sink.old ++ between_of start.row start.col end.row end.col self.now) }
@@ -297,7 +297,7 @@ fn write_end_unless<S: Sink>(
 }
 
 /// Removes the trailing newlines from a string.
-#[tactic(auto, using(crate::proofs::ContentTexts::trim_more))]
+#[tactic(auto, using(crate::proofs::MadeContents::trim_more))]
 fn drop_line_ends(text: &mut String)
     ensures { string_bytes text.new ≡ without_line_ends (string_bytes text.old) }
 {
@@ -307,7 +307,7 @@ fn drop_line_ends(text: &mut String)
 }
 
 /// Returns whether a string ends with a newline.
-#[tactic(auto, using(crate::proofs::ContentTexts::trim_none, crate::proofs::ContentTexts::trim_other))]
+#[tactic(auto, using(crate::proofs::MadeContents::trim_none, crate::proofs::MadeContents::trim_other))]
 fn ends_line(text: &String) -> bool
     ensures yes { IsTrue result →
         (0 < length (string_bytes text.now))

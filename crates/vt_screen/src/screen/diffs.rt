@@ -4,12 +4,11 @@ ghost use Rattle.std.specs.Prelude.{◌≡◌, ◌≤◌, ◌-◌, [], IsOk, fal
 ghost use Rattle.vt_cells.specs.Refusals.{OnlyOutOfMemory};
 ghost use Rattle.vt_grid.specs.Page.{SameSize};
 ghost use Rattle.vt_redraw.specs.Refusals.{RefusedOnlyIfSome};
-ghost use Rattle.vt_screen.specs.DiffInternals.{IsPlainDiff};
+ghost use Rattle.vt_screen.specs.Internals.{IsPlainDiff, KeepsAgreed, KeepsPieces};
 ghost use Rattle.vt_screen.specs.Diffs.{IsDiffWith, KeepsScreensPlain, MayRepeat, RepeatsOnlyInRows};
 ghost use Rattle.vt_screen.specs.Diffs.{diff_controls, finals_with, form_with};
 ghost use Rattle.vt_screen.specs.MadeOf.{IsMadeOf};
 ghost use Rattle.vt_screen.specs.Portable.{IsPortableFrom};
-ghost use Rattle.vt_screen.specs.RepeatInternals.{KeepsAgreed, KeepsPieces};
 ghost use Rattle.vt_screen.specs.Shown.{IsSameIfEmpty, RedrawsFrom, display, display_change_in, shown_text_in};
 ghost use Rattle.vt_screen.specs.TextResults.{IfText};
 
@@ -137,7 +136,7 @@ impl Screen {
     /// # Errors
     ///
     /// Returns `Error::OutOfMemory` if the output cannot be allocated.
-    #[tactic(auto, using(crate::proofs::RepeatedDiffs::to_may_repeat))]
+    #[tactic(auto, using(crate::proofs::RepeatDiffs::to_may_repeat))]
     fn diff_with_repeats(
         &self,
         prev: &Screen,

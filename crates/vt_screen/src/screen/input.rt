@@ -4,9 +4,9 @@ ghost use Rattle.std.specs.Prelude.{◌≡◌, ◌++◌, [], IsOk, OnOk};
 ghost use Rattle.vt_cells.specs.InputModes.{application_cursor_text, bracketed_paste_text, keypad_text};
 ghost use Rattle.vt_cells.specs.Refusals.{OnlyOutOfMemory};
 ghost use Rattle.vt_redraw.specs.Refusals.{RefusedOnlyIfSome};
-ghost use Rattle.vt_screen.specs.InputTexts.{input_change, input_text, mouse_and_style_text, where_changed};
-ghost use Rattle.vt_screen.specs.MadeOf.{IsMadeOf, input_controls};
+ghost use Rattle.vt_screen.specs.States.{input_change, input_text, mouse_and_style_text, where_changed};
 ghost use Rattle.vt_screen.specs.States.{HasDefaultMouseAndStyle, SetsModes};
+ghost use Rattle.vt_screen.specs.MadeOf.{IsMadeOf, input_controls};
 ghost use Rattle.vt_screen.specs.TextResults.{IfText};
 
 use crate::modes::Modes;

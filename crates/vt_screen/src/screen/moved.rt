@@ -11,11 +11,11 @@ ghost use Rattle.vt_grid.specs.Page.{IsPage, SameSize};
 ghost use Rattle.vt_redraw.specs.Moved.{IsBand, picture_after_move, scrolling_text};
 ghost use Rattle.vt_redraw.specs.Picture.{picture_of};
 ghost use Rattle.vt_redraw.specs.Shifted.{IsMoving, IsRowShift};
-ghost use Rattle.vt_redraw.specs.ShiftInternals.{AppendsShifting};
+ghost use Rattle.vt_redraw.specs.Internals.{AppendsShifting};
 ghost use Rattle.vt_redraw.specs.Refusals.{RefusedOnlyIfSome};
 ghost use Rattle.vt_redraw.specs.declared.form.Form.TheVariants.{Fixed};
 ghost use Rattle.vt_screen.specs.Again.{KeepsPlain};
-ghost use Rattle.vt_screen.specs.DiffInternals.{HasDiffProperties, IsPlainDiff};
+ghost use Rattle.vt_screen.specs.Internals.{HasDiffProperties, IsPlainDiff};
 ghost use Rattle.vt_screen.specs.MadeOf.{IsMadeOf, shortened_controls, shortened_finals};
 ghost use Rattle.vt_screen.specs.Screen.{IsColored, IsScreen};
 ghost use Rattle.vt_screen.specs.Gaps.{IsShortVersion};
@@ -118,7 +118,7 @@ impl Screen {
     /// # Errors
     ///
     /// Returns `Error::OutOfMemory` if the redraw, up to the length of `text`, cannot be allocated.
-    #[tactic(auto, using(crate::proofs::OrRedraw::redraw_least))]
+    #[tactic(auto, using(crate::proofs::AgainForms::redraw_least))]
     fn or_redraw(&self, text: String, form: Form) -> Result<String, Error>
         ensures whole { IsScreen self.now }
         ensures colored { IsColored self.now }

@@ -3,8 +3,7 @@
 ghost use Rattle.std.specs.Prelude.{◌≡◌, ◌≢◌, ◌+◌, ◌-◌, ◌*◌, ◌<◌, ◌≤◌, IfSome, OnErr, OnOk, Some, length};
 ghost use Rattle.vt_cells.specs.Glyph.{columns_of};
 ghost use Rattle.vt_cells.specs.Refusals.{OnlyOutOfMemory};
-ghost use Rattle.vt_rows.specs.Texts.{IsNarrowText, IsPrintableAscii};
-ghost use Rattle.vt_rows.specs.WideTexts.{IsWideText};
+ghost use Rattle.vt_rows.specs.Texts.{IsNarrowText, IsPrintableAscii, IsWideText};
 ghost use Rattle.vt_screen.specs.Run.{Refuses, Takes, state};
 ghost use Rattle.vt_screen.specs.Screen.{IsPrintable};
 ghost use Rattle.vt_screen.specs.Steps as step;

@@ -77,7 +77,7 @@ impl Screen {
     /// # Errors
     ///
     /// Returns `Error::OutOfMemory` if the copy cannot be allocated.
-    #[tactic(auto, using(crate::proofs::Kept::kept_alone))]
+    #[tactic(auto, using(crate::proofs::StepInvariant::kept_alone))]
     fn page_copy(&self) -> Result<Screen, Error>
         ensures shown { (above_page self.now).offset ≡ 0 → IfOk result (λ screen. display screen ≡ display self.now) }
         ensures size { IfOk result (λ screen. SameSize screen.page self.now.page) }

@@ -9,14 +9,13 @@ ghost use Rattle.vt_cells.specs.Refusals.{OnlyOutOfMemory};
 ghost use Rattle.vt_grid.specs.Page.{SameSize};
 ghost use Rattle.vt_redraw.specs.Refusals.{RefusedOnlyIfSome};
 ghost use Rattle.vt_screen.specs.Diffs.{RepeatsOnlyInRows, finals_with, form_with};
-ghost use Rattle.vt_screen.specs.InputTexts.{input_change, input_text};
+ghost use Rattle.vt_screen.specs.States.{input_change, input_text, AreModes, GivesState, HasDefaultMouseAndStyle};
+ghost use Rattle.vt_screen.specs.States.{IsEmptyIfSameState, IsSameStateIfEmpty, IsStateReader, IsStateReaderOf};
+ghost use Rattle.vt_screen.specs.States.{SetsModesPlainly, DrawsThenSets, IsStateDiffWith, SetsModesOnScreens};
+ghost use Rattle.vt_screen.specs.States.{state_change_in, state_diff_controls, state_text_in};
 ghost use Rattle.vt_screen.specs.MadeOf.{IsMadeOf, drawing_finals, state_controls};
 ghost use Rattle.vt_screen.specs.Portable.{IsPortableAnywhere, IsPortableFrom};
 ghost use Rattle.vt_screen.specs.Shown.{display, form_of, shown_text_in};
-ghost use Rattle.vt_screen.specs.States.{AreModes, GivesState, HasDefaultMouseAndStyle, IsEmptyIfSameState};
-ghost use Rattle.vt_screen.specs.States.{IsSameStateIfEmpty, IsStateReader, IsStateReaderOf, SetsModesPlainly};
-ghost use Rattle.vt_screen.specs.StatesWith.{DrawsThenSets, IsStateDiffWith, SetsModesOnScreens, state_change_in};
-ghost use Rattle.vt_screen.specs.StatesWith.{state_diff_controls, state_text_in};
 ghost use Rattle.vt_screen.specs.TextResults.{IfText};
 
 use crate::diff_options::DiffOptions;

@@ -148,7 +148,7 @@ fn other_character(text: &str) -> Option<(Element, usize)>
 /// Returns whether a terminal prints `c` or adds it to the glyph before the cursor. Every character
 /// from U+0100 on takes a known number of columns, so the width table need not be searched for it.
 #[inline]
-#[tactic(auto, using(crate::proofs::CharactersRead::columns_some))]
+#[tactic(auto, using(crate::proofs::ReadCharacters::columns_some))]
 fn is_drawn(c: char) -> bool
     ensures { IsTrue result → IsDrawn c }
 {
@@ -361,7 +361,7 @@ fn wanted_next(wanted: Wanted, number: u16) -> Option<Wanted>
 /// Returns whether `wanted` is [`Wanted::Any`] and `number` selects one of the first 16 colors of
 /// the palette.
 #[inline]
-#[tactic(auto, using(crate::proofs::Numbers::foreground_known, crate::proofs::Numbers::background_known, crate::proofs::Numbers::bright_known, crate::proofs::Numbers::bright_background_known))]
+#[tactic(auto, using(crate::proofs::ReadTexts::foreground_known, crate::proofs::ReadTexts::background_known, crate::proofs::ReadTexts::bright_known, crate::proofs::ReadTexts::bright_background_known))]
 fn is_palette_number(wanted: Wanted, number: u16) -> bool
     ensures { IsTrue result → IsWantedNext wanted number Wanted.Any }
 {
@@ -371,7 +371,7 @@ fn is_palette_number(wanted: Wanted, number: u16) -> bool
 /// Returns the decimal number at the beginning of `bytes`, and the number of its digits. A leading
 /// 0 is a number by itself, whatever follows it. Returns `None` if `bytes` does not begin with a
 /// digit, or if the number is above 65535.
-#[tactic(auto, using(crate::proofs::Numbers::number_first, crate::proofs::Numbers::number_next))]
+#[tactic(auto, using(crate::proofs::ReadTexts::number_first, crate::proofs::ReadTexts::number_next))]
 fn number(bytes: &[u8]) -> Option<(u16, usize)>
     ensures inside { IfSome result (λ found. found.1 ≤ length bytes.now) }
     ensures digits { IfSome result (λ found. take found.1 bytes.now ≡ decimal found.0) }

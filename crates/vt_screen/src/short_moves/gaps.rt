@@ -63,7 +63,7 @@ fn is_from(first: Pos, pos: Pos) -> bool
 
 /// Returns whether each of the `count` columns from `col` on has a glyph of one printable ASCII
 /// character with default attributes.
-#[tactic(auto, using(crate::proofs::GapsRead::gap_more))]
+#[tactic(auto, using(crate::proofs::ReadGaps::gap_more))]
 fn is_gap(row: &PictureRow<'_>, col: u16, count: u16) -> bool
     requires inside { col + count ≤ length row.now.cells }
     requires short { col + count < 65536 }
@@ -92,7 +92,7 @@ fn is_byte_glyph(cell: &Cell) -> bool
 /// # Errors
 ///
 /// Returns `Error::OutOfMemory` if the string cannot grow.
-#[tactic(auto, using(crate::proofs::GapsRead::text_more))]
+#[tactic(auto, using(crate::proofs::ReadGaps::text_more))]
 pub fn write_gap(
     short: &mut String,
     row: &PictureRow<'_>,

@@ -90,7 +90,7 @@ impl Route {
     }
 
     /// Returns the number of bytes that the route takes in the output.
-    #[tactic(auto, using(crate::proofs::RouteLengths::route_length))]
+    #[tactic(auto, using(crate::proofs::ReadRoutes::route_length))]
     pub fn len(&self) -> usize
         ensures { result ≡ length (route_text self.now) }
     {
@@ -167,7 +167,7 @@ impl Last {
 
     /// Returns the number of bytes that this part of a route takes in the output.
     #[inline]
-    #[tactic(auto, using(crate::proofs::RouteLengths::back_length, crate::proofs::RouteLengths::right_length, crate::proofs::RouteLengths::column_length))]
+    #[tactic(auto, using(crate::proofs::ReadRoutes::back_length, crate::proofs::ReadRoutes::right_length, crate::proofs::ReadRoutes::column_length))]
     fn len(self) -> usize
         ensures bytes { result ≡ length (last_text self) }
         ensures small { result ≤ 65535 }
@@ -231,7 +231,7 @@ impl Way {
 /// # Errors
 ///
 /// Returns `Error::OutOfMemory` if the string cannot grow.
-#[tactic(auto, using(crate::proofs::Numbers::one_more))]
+#[tactic(auto, using(crate::proofs::ReadTexts::one_more))]
 fn write_repeated(text: &mut String, byte: &str, count: u16) -> Result<(), Error>
     ensures text { (b : ℕ) → byte.now ≡ b ∷ [] →
         OnOk result (string_bytes text.new ≡ string_bytes text.old ++ replicate count b) }
@@ -289,7 +289,7 @@ fn next_stop(col: u16, cols: u16) -> u16
 
 /// Returns the column to which `count` tabs move the cursor from column `col` on a terminal with
 /// `cols` columns and a tab stop at every eighth column. Columns are counted from 0.
-#[tactic(auto, using(crate::proofs::Numbers::next_tab))]
+#[tactic(auto, using(crate::proofs::ReadTexts::next_tab))]
 fn column_after_tabs(col: u16, count: u16, cols: u16) -> u16
     ensures { result ≡ column_after_tabs cols count col }
 {
@@ -333,7 +333,7 @@ pub fn likely_route(form: Form, from: Pos, to: Pos, cols: u16, len: usize) -> Op
 }
 
 /// Returns the number of decimal digits of `number`, which must be at most 65536.
-#[tactic(auto, using(crate::proofs::RouteLengths::digits_one, crate::proofs::RouteLengths::digits_two, crate::proofs::RouteLengths::digits_three, crate::proofs::RouteLengths::digits_four, crate::proofs::RouteLengths::digits_five))]
+#[tactic(auto, using(crate::proofs::ReadRoutes::digits_one, crate::proofs::ReadRoutes::digits_two, crate::proofs::ReadRoutes::digits_three, crate::proofs::ReadRoutes::digits_four, crate::proofs::ReadRoutes::digits_five))]
 pub fn digits(number: u32) -> usize
     requires { number ≤ 65536 }
     ensures count { result ≡ length (decimal number) }

@@ -1,7 +1,7 @@
 use Rattle.std.proofs.Common.{sym, subst, Ok}
 use Rattle.vt_screen.specs.Screen.{IsScreen, ScreenValue}
 use Rattle.vt_screen.specs.Shown.{IsReader, KeepsRest, Redraws, display}
-use Rattle.example_contracts.proofs.Remote.{redrawn}
+use Rattle.example_contracts.proofs.Sending.{redrawn}
 use Rattle.example_contracts.proofs.multiplexer.send_redraw_cut.Goals as goal
 
 pub returns-clause-shows : goal.returns-clause-shows

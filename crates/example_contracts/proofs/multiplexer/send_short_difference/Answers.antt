@@ -1,7 +1,7 @@
 use Rattle.std.proofs.Common.{sym, subst}
 use Rattle.vt_screen.specs.Screen.{IsScreen, ScreenValue}
 use Rattle.vt_screen.specs.Shown.{IsReaderOf, KeepsRest, Redraws, display}
-use Rattle.example_contracts.proofs.Remote.{differing}
+use Rattle.example_contracts.proofs.Sending.{differing}
 use Rattle.example_contracts.proofs.multiplexer.send_short_difference.Goals as goal
 
 pub returns-clause-shows : goal.returns-clause-shows

@@ -8,7 +8,7 @@ use Rattle.vt_screen.specs.Streamed.{HasNoRis}
 use Rattle.vt_screen.specs.CallsOfRun.{screen_in}
 use Rattle.vt100.specs.Parser.{ParserValue}
 use Rattle.vt100.specs.Streams.{MakesCall, ParserCall, Process, whole_text}
-use Rattle.example_contracts.proofs.Runs.{fresh_parser}
+use Rattle.example_contracts.proofs.Sending.{fresh_parser}
 use Rattle.example_contracts.proofs.recording.record.Goals as goal
 
 pub returns-clause-text : goal.returns-clause-text

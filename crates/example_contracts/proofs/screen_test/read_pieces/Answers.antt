@@ -2,7 +2,7 @@ use Rattle.std.proofs.Common.{ℕ, List, [], Bor, get_or, map, rules, sym, subst
 use Rattle.std.proofs.lemmas.List.{map_more, take_all}
 use Rattle.std.specs.List.{FoldsTo}
 use Rattle.vt100.specs.Parser.{Ran, does_nothing}
-use Rattle.example_contracts.proofs.Runs.{ran_more}
+use Rattle.example_contracts.proofs.Sending.{ran_more}
 use Rattle.example_contracts.proofs.screen_test.read_pieces.Goals as goal
 
 -- The default item for an index out of range.

@@ -4,8 +4,7 @@ use Rattle.vt_grid.specs.declared.grid.moves.CursorMove.TheVariants.{To}
 use Rattle.vt_grid.specs.declared.page_step.PageStep.TheVariants.{Move}
 use Rattle.vt_screen.specs.Controls.{number_or, seen_of}
 use Rattle.vt_screen.specs.Steps.{OnPage}
-use Rattle.vt100.proofs.Dispatching.{unmarked_place, unmarked_sgr}
-use Rattle.vt100.proofs.Stepping.{all_done, stepping}
+use Rattle.vt100.proofs.Stepping.{unmarked_place, unmarked_sgr, all_done, stepping}
 use Rattle.vt100.proofs.csi.unmarked.Goals as goal
 
 pub returns-then-byte-eq109 : goal.returns-then-byte-eq109

@@ -1,8 +1,7 @@
 -- The requested size of a window manipulation.
 use Rattle.std.proofs.Common.{arith, ◌∙◌}
 use Rattle.vt_screen.specs.Calls.{Resize}
-use Rattle.vt100.proofs.Deciding.{sized}
-use Rattle.vt100.proofs.Stepping.{called}
+use Rattle.vt100.proofs.Stepping.{sized, called}
 use Rattle.vt100.proofs.csi.window.Goals as goal
 
 pub returns : goal.returns

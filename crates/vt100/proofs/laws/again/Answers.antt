@@ -1,5 +1,5 @@
 use Rattle.vt100.specs.Parser.{pieces_joined}
-use Rattle.vt100.proofs.Again.{leaves_modes, leaves_plain}
+use Rattle.vt100.proofs.PlainParsers.{leaves_modes, leaves_plain}
 use Rattle.vt100.proofs.Running.{ran_joined}
 use Rattle.vt100.proofs.laws.again.Goals as goal
 

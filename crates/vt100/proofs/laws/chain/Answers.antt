@@ -1,4 +1,4 @@
-use Rattle.vt100.proofs.Pieces.{chain_pieces}
+use Rattle.vt100.proofs.Quiet.{chain_pieces}
 use Rattle.vt100.proofs.laws.chain.Goals as goal
 
 pub returns : goal.returns

@@ -1,4 +1,4 @@
-use Rattle.vt100.proofs.Diffs.{diffs_read}
+use Rattle.vt100.proofs.PlainParsers.{diffs_read}
 use Rattle.vt100.proofs.laws.diffs.Goals as goal
 
 pub returns : goal.returns

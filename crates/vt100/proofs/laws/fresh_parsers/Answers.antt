@@ -1,4 +1,4 @@
-use Rattle.vt100.proofs.Fresh.{fresh_cols, fresh_parser, fresh_rows, plain_parser}
+use Rattle.vt100.proofs.PlainParsers.{fresh_cols, fresh_parser, fresh_rows, plain_parser}
 use Rattle.vt100.proofs.laws.fresh_parsers.Goals as goal
 
 pub returns : goal.returns

@@ -1,5 +1,5 @@
 -- Runs over bytes that come in chunks.
-use Rattle.vt100.proofs.Parting.{some_parted, some_parted_list}
+use Rattle.vt100.proofs.Streams.{some_parted, some_parted_list}
 use Rattle.vt100.proofs.Running.{ran_then, ran_joined}
 use Rattle.vt100.proofs.laws.pieces.Goals as goal
 

@@ -1,4 +1,4 @@
-use Rattle.vt100.proofs.Pieces.{read_pieces}
+use Rattle.vt100.proofs.Quiet.{read_pieces}
 use Rattle.vt100.proofs.laws.quiet_pieces.Goals as goal
 
 pub returns : goal.returns

@@ -1,5 +1,4 @@
-use Rattle.vt100.proofs.Pieces.{made_read, ran_read}
-use Rattle.vt100.proofs.Quiet.{quietly_harmless}
+use Rattle.vt100.proofs.Quiet.{made_read, ran_read, quietly_harmless}
 use Rattle.vt100.proofs.laws.quiet_runs.Goals as goal
 
 pub returns : goal.returns

@@ -1,4 +1,4 @@
-use Rattle.vt100.proofs.Fresh.{resized_cols, resized_parser, resized_rows}
+use Rattle.vt100.proofs.PlainParsers.{resized_cols, resized_parser, resized_rows}
 use Rattle.vt100.proofs.laws.resized_parsers.Goals as goal
 
 pub returns : goal.returns

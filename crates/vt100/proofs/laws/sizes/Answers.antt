@@ -1,5 +1,5 @@
 -- Runs keep the size of the screen.
-use Rattle.vt100.proofs.Sizes.{quiet_leaves, some_ran_size, some_stopped_size}
+use Rattle.vt100.proofs.PlainParsers.{quiet_leaves, some_ran_size, some_stopped_size}
 use Rattle.vt100.proofs.laws.sizes.Goals as goal
 
 pub returns : goal.returns

@@ -1,8 +1,7 @@
 -- The two calls of OSC 0.
 use Rattle.std.proofs.Common.{sym, ◌∙◌}
 use Rattle.vt_screen.specs.Calls.{SetWindowIconName, SetWindowTitle}
-use Rattle.vt100.proofs.Deciding.{named_both}
-use Rattle.vt100.proofs.Stepping.{called_twice}
+use Rattle.vt100.proofs.Stepping.{named_both, called_twice}
 use Rattle.vt100.proofs.osc.title.Goals as goal
 
 pub returns-then-is_text : goal.returns-then-is_text

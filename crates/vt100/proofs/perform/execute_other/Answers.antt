@@ -2,8 +2,7 @@
 use Rattle.std.proofs.Common.{arith}
 use Rattle.vt_screen.specs.Calls.{AudibleBell, UnhandledControl}
 use Rattle.vt_screen.specs.Controls.{control_steps}
-use Rattle.vt100.proofs.Deciding.{control_low, control_high}
-use Rattle.vt100.proofs.Stepping.{called}
+use Rattle.vt100.proofs.Stepping.{control_low, control_high, called}
 use Rattle.vt100.proofs.perform.execute_other.Goals as goal
 use Rattle.vt100.proofs.perform.execute_other.Goals.{in_default-via-then-byte-lt13}
 use Rattle.vt100.proofs.perform.execute_other.Goals.{in_default-via-else-byte-lt13+else-byte-lt16}

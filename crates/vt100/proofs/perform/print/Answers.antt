@@ -2,8 +2,7 @@
 use Rattle.std.proofs.Common.{sym, ◌∙◌}
 use Rattle.std.proofs.lemmas.Bool.{false≢true}
 use Rattle.vt_screen.specs.Calls.{UnhandledChar}
-use Rattle.vt100.proofs.Deciding.{reported_steps}
-use Rattle.vt100.proofs.Stepping.{called}
+use Rattle.vt100.proofs.Stepping.{reported_steps, called}
 use Rattle.vt100.proofs.perform.print.Goals as goal
 
 pub returns-then-is_reported : goal.returns-then-is_reported

@@ -1,7 +1,7 @@
 -- The steps left after one more group of private modes, or a stop within it.
 use Rattle.std.proofs.Common.{arith, refl, rules}
 use Rattle.vt100.specs.Internals.{report_of}
-use Rattle.vt100.proofs.Remaining.{modes_left, modes_stop}
+use Rattle.vt100.proofs.Stepping.{modes_left, modes_stop}
 use Rattle.vt100.proofs.private_modes.perform.Goals as goal
 
 pub loop-i-preserved : goal.loop-i-preserved

@@ -1,6 +1,6 @@
 -- The mouse modes and encodings, each set or reset by one step.
 use Rattle.vt_screen.specs.Controls.{mode_step}
-use Rattle.vt100.proofs.ModeSetting.{mode_set}
+use Rattle.vt100.proofs.Stepping.{mode_set}
 use Rattle.vt100.proofs.private_modes.set_other_mode.Goals as goal
 
 pub returns-in-1000 : goal.returns-in-1000

@@ -3,11 +3,11 @@ use Rattle.std.proofs.Common.{[], ◌∷◌, ◌∙◌, List, ℕ, get_or, inl, 
 use Rattle.std.proofs.lemmas.List.{take_more}
 use Rattle.vt_scan.specs.Scanner.{Feeds, ScannerValue}
 use Rattle.vt_scan.specs.declared.event.Event.TheVariants.{Csi, Escape, Osc}
-use Rattle.vt_scan.proofs.Feeding.{one_event}
+use Rattle.vt_scan.proofs.Steps.{one_event}
 use Rattle.vt_scan.proofs.Leading.{feeds_none}
 use Rattle.vt100.specs.Parser.{Ran, parser_value, stage}
-use Rattle.vt100.proofs.Refusing.{stopped_at_first}
-use Rattle.vt100.proofs.Running.{byte_ran, known_ran, released_ran, some_read, stopped_in, stopped_within}
+use Rattle.vt100.proofs.Running.{stopped_at_first, byte_ran, known_ran, released_ran, some_read, stopped_in}
+use Rattle.vt100.proofs.Running.{stopped_within}
 use Rattle.vt100.proofs.processing.end_sequence.Goals as goal
 
 pub returns-in-Err-clause-read : goal.returns-in-Err-clause-read

@@ -5,7 +5,7 @@ use Rattle.std.specs.List.{FoldsTo}
 use Rattle.vt_scan.specs.Automaton.{Event}
 use Rattle.vt_scan.specs.Scanner.{event_of, events_in}
 use Rattle.vt_screen.specs.Run.{Performs, Breaks, StopsIn, state}
-use Rattle.vt_rows.proofs.Folds.{folds_then}
+use Rattle.vt_rows.proofs.RowTexts.{folds_then}
 use Rattle.vt100.proofs.Running.{stops_then}
 use Rattle.vt100.proofs.processing.perform_each.Goals as goal
 

@@ -4,7 +4,7 @@ use Rattle.vt_scan.specs.Automaton.{Character}
 use Rattle.vt_screen.specs.Screen.{ScreenValue}
 use Rattle.vt_screen.specs.Texts.{screen_after_text}
 use Rattle.vt100.specs.Parser.{Ran, invokes_none, parser_value}
-use Rattle.vt100.proofs.NarrowRuns.{narrow_folds}
+use Rattle.vt100.proofs.PrintedRuns.{narrow_folds}
 use Rattle.vt100.proofs.Running.{known_ran}
 use Rattle.vt100.proofs.processing.print_narrow_fitting.Goals as goal
 

@@ -2,13 +2,13 @@ use Rattle.std.proofs.Common.{◌+◌, ◌≤◌, ℕ, List, length, get_or, tak
 use Rattle.std.specs.Prelude.{All}
 use Rattle.std.proofs.lemmas.List.{length-take, take-take, take_more}
 use Rattle.vt_scan.specs.Scanner.{ReadsItself}
-use Rattle.vt_scan.proofs.Feeding.{text_feeds}
+use Rattle.vt_scan.proofs.Steps.{text_feeds}
 use Rattle.vt_screen.specs.Screen.{ScreenValue}
 use Rattle.vt_screen.specs.Texts.{screen_after_text}
 use Rattle.vt100.specs.Parser.{Ran, invokes_none, parser_value, stage}
-use Rattle.vt100.proofs.Plain.{printable_of, text_ran}
-use Rattle.vt100.proofs.Refusing.{stopped_at_first}
-use Rattle.vt100.proofs.Running.{byte_ran, one_character, text_answer, some_read, stopped_in, stopped_within}
+use Rattle.vt100.proofs.PrintedRuns.{printable_of, text_ran}
+use Rattle.vt100.proofs.Running.{stopped_at_first, byte_ran, one_character, text_answer, some_read, stopped_in}
+use Rattle.vt100.proofs.Running.{stopped_within}
 use Rattle.vt100.proofs.processing.print_some.Given as given
 use Rattle.vt100.proofs.processing.print_some.Goals as goal
 use Rattle.vt100.proofs.processing.print_some.Goals.{After-text_len-count}

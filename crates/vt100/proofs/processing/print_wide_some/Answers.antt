@@ -5,7 +5,7 @@ use Rattle.vt_scan.specs.Scanner.{FeedsAll}
 use Rattle.vt_screen.specs.Screen.{ScreenValue}
 use Rattle.vt_screen.specs.Texts.{screen_after_text}
 use Rattle.vt100.specs.Parser.{Ran, invokes_none, parser_value}
-use Rattle.vt100.proofs.WideRuns.{wide_folds}
+use Rattle.vt100.proofs.PrintedRuns.{wide_folds}
 use Rattle.vt100.proofs.Running.{known_ran}
 use Rattle.vt100.proofs.processing.print_wide_some.Goals as goal
 

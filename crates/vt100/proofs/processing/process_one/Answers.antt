@@ -2,8 +2,7 @@
 use Rattle.std.proofs.Common.{◌-◌, [], ◌∷◌, inl, inr, refl, take, arith, rules}
 use Rattle.vt_scan.specs.Automaton.{Character}
 use Rattle.vt100.specs.Parser.{parser_value, stage}
-use Rattle.vt100.proofs.Refusing.{stopped_at_last}
-use Rattle.vt100.proofs.Running.{known_ran, known_stopped, some_read, stopped_in}
+use Rattle.vt100.proofs.Running.{stopped_at_last, known_ran, known_stopped, some_read, stopped_in}
 use Rattle.vt100.proofs.processing.process_one.Goals as goal
 
 pub returns-in-Err-clause-read : goal.returns-in-Err-clause-read

@@ -1,7 +1,6 @@
 use Rattle.std.proofs.Common.{◌≡◌, ℕ, [], inl, inr, refl, subst, take, arith}
 use Rattle.vt100.specs.Parser.{Ran, parser_value}
-use Rattle.vt100.proofs.Refusing.{stopped_at_after, stopped_at_first}
-use Rattle.vt100.proofs.Running.{known_ran, silent_none, stopped_in, stopped_within}
+use Rattle.vt100.proofs.Running.{stopped_at_after, stopped_at_first, known_ran, silent_none, stopped_in, stopped_within}
 use Rattle.vt100.proofs.processing.process_rest.Goals as goal
 
 pub returns-in-Err-clause-read : goal.returns-in-Err-clause-read

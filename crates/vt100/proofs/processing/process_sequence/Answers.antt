@@ -2,8 +2,8 @@
 use Rattle.std.proofs.Common.{[], ◌≤◌, ◌+◌, List, ℕ, drop, inl, length, refl, subst, take, rules}
 use Rattle.vt_scan.proofs.Lists.{all_left}
 use Rattle.vt100.specs.Parser.{CallsByLast, Ran, Stopped, StoppedAt, parser_value}
-use Rattle.vt100.proofs.Refusing.{stopped_at_then}
-use Rattle.vt100.proofs.Running.{known_ran, led_by_last, ran_on, silent_none, some_read, stopped_in, stopped_then}
+use Rattle.vt100.proofs.Running.{stopped_at_then, known_ran, led_by_last, ran_on, silent_none, some_read, stopped_in}
+use Rattle.vt100.proofs.Running.{stopped_then}
 use Rattle.vt100.proofs.processing.process_sequence.Goals as goal
 
 pub returns-in-Err-clause-read : goal.returns-in-Err-clause-read

@@ -2,10 +2,10 @@
 use Rattle.std.proofs.Common.{◌≡◌, List, ℕ, get_or, inl, inr, refl, subst, sym, take, arith}
 use Rattle.std.proofs.lemmas.List.{take_more}
 use Rattle.vt_scan.specs.declared.event.Event.TheVariants.{Executed}
-use Rattle.vt_scan.proofs.Feeding.{one_event}
+use Rattle.vt_scan.proofs.Steps.{one_event}
 use Rattle.vt100.specs.Parser.{CallsByLast, Ran, parser_value, stage}
-use Rattle.vt100.proofs.Refusing.{stopped_at_first}
-use Rattle.vt100.proofs.Running.{byte_ran, later_by_last, map_some, read_after_quiet, some_read, stopped_in, stopped_within}
+use Rattle.vt100.proofs.Running.{stopped_at_first, byte_ran, later_by_last, map_some, read_after_quiet, some_read}
+use Rattle.vt100.proofs.Running.{stopped_in, stopped_within}
 use Rattle.vt100.proofs.processing.process_some.Goals as goal
 
 pub returns-in-Err-clause-read : goal.returns-in-Err-clause-read

@@ -1,7 +1,7 @@
 -- The prints left after some more of them.
 use Rattle.std.proofs.Common.{replicate}
 use Rattle.vt_screen.specs.Steps.{Print}
-use Rattle.vt100.proofs.Repeats.{more_left}
+use Rattle.vt100.proofs.PrintedRuns.{more_left}
 use Rattle.vt100.proofs.repeating.repeat_ascii.Goals as goal
 
 pub loop-left-preserved : goal.loop-left-preserved

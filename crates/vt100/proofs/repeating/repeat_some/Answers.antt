@@ -4,7 +4,7 @@ use Rattle.vt_screen.specs.Run.{Refuses, Takes, state}
 use Rattle.vt_screen.specs.Screen.{ScreenValue}
 use Rattle.vt_screen.specs.Steps.{Print}
 use Rattle.vt100.specs.Internals.{Does}
-use Rattle.vt100.proofs.Repeats.{first_refused, prints_done}
+use Rattle.vt100.proofs.PrintedRuns.{first_refused, prints_done}
 use Rattle.vt100.proofs.Stepping.{taken}
 use Rattle.vt100.proofs.repeating.repeat_some.Goals as goal
 

@@ -1,7 +1,7 @@
 -- The steps left after one more group of settings.
 use Rattle.std.proofs.Common.{◌∙◌, ap, arith}
 use Rattle.vt_screen.specs.Sgr.{group_read}
-use Rattle.vt100.proofs.Remaining.{settings_left}
+use Rattle.vt100.proofs.Stepping.{settings_left}
 use Rattle.vt100.proofs.sgr.set_by_groups.Goals as goal
 
 pub loop-i-preserved : goal.loop-i-preserved

@@ -2,7 +2,7 @@
 use Rattle.std.proofs.Common.{◌≡◌, ◌<◌, ◌∙◌, ◌∷◌, [], List, ℕ, ap, arith, get_or, length, sym}
 use Rattle.std.proofs.lemmas.List.{get_or-map, length-map}
 use Rattle.vt_screen.specs.Sgr.{group_read}
-use Rattle.vt100.proofs.Remaining.{settings_left}
+use Rattle.vt100.proofs.Stepping.{settings_left}
 use Rattle.vt100.proofs.sgr.set_by_numbers.Goals as goal
 
 pub loop-i-preserved : goal.loop-i-preserved

@@ -1,7 +1,7 @@
 use Rattle.std.proofs.Common.{ap, ◌∙◌}
 use Rattle.vt_cells.specs.Cell.{is_blank}
-use Rattle.vt_cells.specs.CellInternals.{blank_shape, same_shape}
-use Rattle.vt_cells.proofs.SameCells.{blank_kept}
+use Rattle.vt_cells.specs.Internals.{blank_shape, same_shape}
+use Rattle.vt_cells.proofs.Cells.{blank_kept}
 use Rattle.vt_cells.proofs.cell.is_blank.Goals as goal
 
 pub returns : goal.returns

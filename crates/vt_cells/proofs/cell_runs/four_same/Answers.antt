@@ -1,6 +1,5 @@
 use Rattle.std.proofs.Common.{arith, eqb-true}
-use Rattle.vt_cells.proofs.Four.{four_cells, same_at}
-use Rattle.vt_cells.proofs.Words.{or_none_left, or_none_right}
+use Rattle.vt_cells.proofs.Cells.{four_cells, same_at, or_none_left, or_none_right}
 use Rattle.vt_cells.proofs.cell_runs.four_same.Goals as goal
 
 pub returns : goal.returns

@@ -1,5 +1,5 @@
 use Rattle.std.proofs.Common.{arith, refl}
-use Rattle.vt_cells.proofs.Four.{four_more}
+use Rattle.vt_cells.proofs.Cells.{four_more}
 use Rattle.vt_cells.proofs.cell_runs.same_run.Goals as goal
 
 pub loop-count-preserved : goal.loop-count-preserved

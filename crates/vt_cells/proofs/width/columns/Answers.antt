@@ -1,4 +1,4 @@
-use Rattle.vt_cells.proofs.Widths.{columns_of-ascii, columns_of-given, columns_of-low, columns_of-high}
+use Rattle.vt_cells.proofs.Glyphs.{columns_of-ascii, columns_of-given, columns_of-low, columns_of-high}
 use Rattle.vt_cells.proofs.width.columns.Goals as goal
 use Rattle.std.proofs.Common.{arith, sym, ◌∙◌, ap, Some}
 

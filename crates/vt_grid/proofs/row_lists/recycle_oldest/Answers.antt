@@ -1,7 +1,7 @@
 use Rattle.std.proofs.Common.{length, subst, sym, ap, ◌∙◌, ◌≡◌, get_or, arith}
 use Rattle.vt_cells.specs.Attrs.{default_attrs}
 use Rattle.vt_rows.specs.Row.{RowValue, IsRow, blank_row, trimmed_row}
-use Rattle.vt_grid.proofs.Stacking.{newest_turned, turned_over}
+use Rattle.vt_grid.proofs.ScrollbackRows.{newest_turned, turned_over}
 use Rattle.vt_grid.proofs.row_lists.recycle_oldest.Goals as goal
 
 pub leave_for-requires : goal.leave_for-requires

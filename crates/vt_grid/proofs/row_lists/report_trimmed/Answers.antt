@@ -3,7 +3,7 @@ use Rattle.std.specs.List.{FoldsTo}
 use Rattle.std.proofs.lemmas.List.{drop_all, length-take}
 use Rattle.vt_cells.specs.Attrs.{default_attrs}
 use Rattle.vt_rows.specs.Row.{RowValue, blank_row, trimmed_row}
-use Rattle.vt_grid.proofs.Stacking.{first_more}
+use Rattle.vt_grid.proofs.ScrollbackRows.{first_more}
 use Rattle.vt_grid.proofs.row_lists.report_trimmed.Goals as goal
 
 pub loop-k-preserved : goal.loop-k-preserved

@@ -2,7 +2,7 @@ use Rattle.std.proofs.Common.{◌++◌, ◌∷◌, [], length, take, sym, ap, �
 use Rattle.std.proofs.lemmas.List.{length-map, length-take}
 use Rattle.vt_cells.specs.Attrs.{default_attrs}
 use Rattle.vt_rows.specs.Row.{RowValue, blank_row, trimmed_row}
-use Rattle.vt_grid.proofs.Stacking.{copied_more}
+use Rattle.vt_grid.proofs.ScrollbackRows.{copied_more}
 use Rattle.vt_grid.proofs.row_lists.trimmed_rows.Goals as goal
 
 pub push_reserved-requires : goal.push_reserved-requires

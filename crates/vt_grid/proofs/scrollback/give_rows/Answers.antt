@@ -7,8 +7,8 @@ use Rattle.vt_cells.specs.Attrs.{default_attrs}
 use Rattle.vt_rows.specs.Cells.{IsPaired}
 use Rattle.vt_rows.specs.Row.{RowValue, blank_row, resized_row}
 use Rattle.vt_grid.specs.PageRows.{PageRowsValue}
-use Rattle.vt_grid.proofs.Moving.{MovedInto, moved_none, still_blank, moved_more, moved_all}
-use Rattle.vt_grid.proofs.Moving.{last_taken, last_paired, left_taken, none_left}
+use Rattle.vt_grid.proofs.Scrolls.{MovedInto, moved_none, still_blank, moved_more, moved_all, last_taken, last_paired}
+use Rattle.vt_grid.proofs.Scrolls.{left_taken, none_left}
 use Rattle.vt_grid.proofs.scrollback.give_rows.Goals as goal
 
 pub loop-k-init : goal.loop-k-init

@@ -1,7 +1,7 @@
 use Rattle.std.proofs.Common.{◌≡◌, ℕ, ◌+◌, ◌-◌, ◌<◌, length, take, drop, get_or, ap, subst, ◌∙◌, arith}
 use Rattle.std.proofs.lemmas.List.{get_or_default}
 use Rattle.vt_grid.specs.Scrollback.{grown_row}
-use Rattle.vt_grid.specs.Spare.{grown_from}
+use Rattle.vt_grid.specs.Internals.{grown_from}
 use Rattle.vt_grid.proofs.Growing.{spare_first, spare_one, grown_at, grown_set, grown_whole}
 use Rattle.vt_grid.proofs.scrollback.grow_in_view.Goals as goal
 

@@ -1,6 +1,6 @@
 use Rattle.std.proofs.Common.{◌≡◌, ◌+◌, ◌-◌, ◌≤◌, ◌++◌, take, drop, map}
 use Rattle.vt_grid.specs.Scrollback.{grown_row}
-use Rattle.vt_grid.specs.Spare.{AreSpare, window_from}
+use Rattle.vt_grid.specs.Internals.{AreSpare, window_from}
 use Rattle.vt_grid.proofs.scrollback.grow_in_view.Given as goal
 
 abbrev pub invariant-loop-k : goal.invariant-loop-k

@@ -1,6 +1,6 @@
 use Rattle.std.proofs.Common.{◌≡◌, ◌+◌, ◌-◌, ◌≤◌, take, drop}
 use Rattle.vt_grid.specs.Scrollback.{narrow_rows}
-use Rattle.vt_grid.specs.Spare.{window_from}
+use Rattle.vt_grid.specs.Internals.{window_from}
 use Rattle.vt_grid.proofs.scrollback.narrow_rows.Given as goal
 
 abbrev pub invariant-loop-k : goal.invariant-loop-k

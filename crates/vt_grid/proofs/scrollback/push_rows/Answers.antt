@@ -2,7 +2,7 @@ use Rattle.std.proofs.Common.{◌≡◌, ℕ, ◌+◌, ◌-◌, ◌≤◌, ◌�
 use Rattle.std.proofs.lemmas.List.Elements.{All-head, All-tail}
 use Rattle.std.specs.Vec.Iter.{into_iter_items}
 use Rattle.vt_rows.specs.Row.{RowValue, IsRow}
-use Rattle.vt_grid.proofs.Stacking.{All-pushed, row_kept, row_counted, room_left, row_sent}
+use Rattle.vt_grid.proofs.ScrollbackRows.{All-pushed, row_kept, row_counted, room_left, row_sent}
 use Rattle.vt_grid.proofs.scrollback.push_rows.Goals as goal
 
 pub loop-row-preserved : goal.loop-row-preserved

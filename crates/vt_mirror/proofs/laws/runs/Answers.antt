@@ -1,4 +1,4 @@
-use Rattle.vt_mirror.proofs.Following.{follows}
+use Rattle.vt_mirror.proofs.Runs.{follows}
 use Rattle.vt_mirror.proofs.laws.runs.Goals as goal
 
 pub returns : goal.returns

@@ -1,7 +1,7 @@
 use Rattle.std.proofs.Common.{ap}
 use Rattle.vt100.proofs.Streams.{recorded_text}
 use Rattle.vt_notes.specs.Recording.{Recorded, Records}
-use Rattle.vt_notes.proofs.Recording.{recorder}
+use Rattle.vt_notes.proofs.Runs.{recorder}
 use Rattle.vt_notes.proofs.laws.recorded.Goals as goal
 
 pub returns : goal.returns

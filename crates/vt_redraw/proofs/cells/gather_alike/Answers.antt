@@ -1,13 +1,13 @@
 use Rattle.std.proofs.Common.{◌≡◌, ◌+◌, ◌++◌, ◌∙◌, Bool, List, ℕ, ap, arith, subst, sym}
 use Rattle.std.proofs.Common.{◌<◌, drop, length}
-use Rattle.vt_cells.specs.BufferInternals.{buffered_text}
+use Rattle.vt_cells.specs.Internals.{buffered_text}
 use Rattle.vt_cells.specs.Cell.{is_wide, text_of}
 use Rattle.vt_cells.specs.Glyph.{glyph_columns}
 use Rattle.vt_rows.specs.Cells.{at}
 use Rattle.vt_redraw.specs.Internals.{Leads, cells_from}
 use Rattle.vt_redraw.specs.declared.pen.Pen.{Pen}
 use Rattle.vt_redraw.specs.Script.{pen_in}
-use Rattle.vt_redraw.proofs.Alike.{alike_inside, alike_leads, narrow_keeps, read_at, short_past}
+use Rattle.vt_redraw.proofs.Writing.{alike_inside, alike_leads, narrow_keeps, read_at, short_past}
 use Rattle.vt_redraw.proofs.CellSteps.{leads_then}
 use Rattle.vt_redraw.proofs.cells.gather_alike.Goals as goal
 

@@ -1,5 +1,5 @@
 use Rattle.std.proofs.Common.{◌-◌, ◌≤◌, ℕ, List, length}
-use Rattle.vt_cells.specs.BufferInternals.{buffered_text}
+use Rattle.vt_cells.specs.Internals.{buffered_text}
 use Rattle.vt_redraw.specs.Internals.{Leads, cells_from}
 use Rattle.vt_redraw.proofs.cells.gather_alike.Given as goal
 

@@ -1,6 +1,6 @@
 use Rattle.std.proofs.Common.{◌∙◌, length, ap, arith, refl, rules}
 use Rattle.vt_cells.proofs.Sinks.{on_err}
-use Rattle.vt_redraw.proofs.Refusals.{some_first}
+use Rattle.vt_redraw.proofs.WriterSteps.{some_first}
 use Rattle.vt_redraw.proofs.Writing.{placed_gathered}
 use Rattle.vt_cells.specs.Cell.{attrs_of, text_of}
 use Rattle.vt_cells.specs.Op.{Print}

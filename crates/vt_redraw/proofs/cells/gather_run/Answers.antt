@@ -1,6 +1,6 @@
 use Rattle.std.proofs.Common.{◌+◌, drop, refl, rules}
 use Rattle.vt_cells.proofs.Sinks.{on_err}
-use Rattle.vt_redraw.proofs.Refusals.{some_first}
+use Rattle.vt_redraw.proofs.WriterSteps.{some_first}
 use Rattle.vt_redraw.proofs.Writing.{placed_gathered}
 use Rattle.vt_redraw.specs.Script.{attr_ops_in, erase_run, move_ops}
 use Rattle.vt_redraw.proofs.cells.gather_run.Goals as goal

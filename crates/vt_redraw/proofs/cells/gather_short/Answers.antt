@@ -1,13 +1,13 @@
 use Rattle.std.proofs.Common.{◌≡◌, ◌+◌, ◌∙◌, [], ap, arith, drop, refl, rules, sym}
 use Rattle.vt_cells.proofs.Sinks.{on_err}
-use Rattle.vt_cells.specs.BufferInternals.{buffered_text}
+use Rattle.vt_cells.specs.Internals.{buffered_text}
 use Rattle.vt_cells.specs.Cell.{attrs_of, is_wide, text_of}
 use Rattle.vt_cells.specs.Glyph.{glyph_columns}
 use Rattle.vt_cells.specs.Op.{Print, bytes_of_all}
 use Rattle.vt_redraw.specs.Script.{pen_in, pen_past, placed_op, wrapped_after_glyph}
-use Rattle.vt_redraw.proofs.Alike.{alike_settles, narrow_keeps, short_past}
+use Rattle.vt_redraw.proofs.Writing.{alike_settles, narrow_keeps, short_past}
 use Rattle.vt_redraw.proofs.CellSteps.{glyph_leads}
-use Rattle.vt_redraw.proofs.Refusals.{buffer_some, start_some}
+use Rattle.vt_redraw.proofs.WriterSteps.{buffer_some, start_some}
 use Rattle.vt_redraw.proofs.cells.gather_short.Goals as goal
 
 pub returns-in_err-gather_byte : goal.returns-in_err-gather_byte

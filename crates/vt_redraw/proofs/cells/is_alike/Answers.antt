@@ -1,9 +1,9 @@
 use Rattle.std.proofs.Common.{◌≡◌, ◌∙◌, ap, arith, sym}
-use Rattle.vt_cells.proofs.Shapes.{head_of-same}
+use Rattle.vt_cells.proofs.Packing.{head_of-same}
 use Rattle.vt_cells.specs.Cell.{CellValue, same_cell}
-use Rattle.vt_cells.specs.CellInternals.{head_of_cell}
+use Rattle.vt_cells.specs.Internals.{head_of_cell}
 use Rattle.vt_rows.specs.Cells.{at}
-use Rattle.vt_redraw.proofs.Alike.{read_at, refuted}
+use Rattle.vt_redraw.proofs.Writing.{read_at, refuted}
 use Rattle.vt_redraw.proofs.cells.is_alike.Goals as goal
 
 pub returns-then-col-others : goal.returns-then-col-others

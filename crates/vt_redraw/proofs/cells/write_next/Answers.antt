@@ -2,10 +2,10 @@ use Rattle.std.proofs.Common.{◌∙◌, ◌+◌, [], drop, refl, rules, sym, ap
 use Rattle.vt_cells.proofs.Sinks.{on_err}
 use Rattle.vt_cells.specs.Cell.{attrs_of, is_blank}
 use Rattle.vt_cells.specs.Op.{bytes_of_all}
-use Rattle.vt_cells.specs.BufferInternals.{buffered_text}
+use Rattle.vt_cells.specs.Internals.{buffered_text}
 use Rattle.vt_redraw.specs.Script.{erase_run, pen_in, placed_op, wrapped_after_erasure}
 use Rattle.vt_redraw.proofs.CellSteps.{next_run, run_some}
-use Rattle.vt_redraw.proofs.Refusals.{buffer_some, start_some}
+use Rattle.vt_redraw.proofs.WriterSteps.{buffer_some, start_some}
 use Rattle.vt_redraw.proofs.cells.write_next.Goals as goal
 
 pub returns : goal.returns

@@ -1,10 +1,10 @@
 use Rattle.std.proofs.Common.{◌∙◌, ◌+◌, rules, sym, ap, arith}
-use Rattle.vt_cells.specs.BufferInternals.{buffered_text}
+use Rattle.vt_cells.specs.Internals.{buffered_text}
 use Rattle.vt_redraw.specs.Internals.{cells_from}
 use Rattle.vt_redraw.proofs.CellSteps.{leads_then, leads_text, passes_cell, passes_leads, passes_then, cells_end}
 use Rattle.std.proofs.Common.{refl}
 use Rattle.vt_cells.proofs.Sinks.{on_err}
-use Rattle.vt_redraw.proofs.Refusals.{leads_some, some_first}
+use Rattle.vt_redraw.proofs.WriterSteps.{leads_some, some_first}
 use Rattle.vt_redraw.proofs.cells.write_others.Goals as goal
 
 pub loop-col-preserved-then-stands_at : goal.loop-col-preserved-then-stands_at

@@ -4,7 +4,7 @@ use Rattle.vt_cells.proofs.Sinks.{on_err}
 use Rattle.vt_cells.specs.Op.{bytes_of_all}
 use Rattle.vt_rows.specs.Row.{RowValue}
 use Rattle.vt_redraw.specs.Redraw.{under_last}
-use Rattle.vt_redraw.proofs.Refusals.{feeds_some, under_last_some, under_last_text}
+use Rattle.vt_redraw.proofs.WriterSteps.{feeds_some, under_last_some, under_last_text}
 use Rattle.vt_redraw.proofs.cursor_rule.write_under_last.Goals as goal
 
 pub returns-in_err-write_change_in : goal.returns-in_err-write_change_in

@@ -1,5 +1,5 @@
 use Rattle.std.proofs.Common.{ap, sym, ◌∙◌}
-use Rattle.vt_redraw.proofs.ItemSteps.{linked_below}
+use Rattle.vt_redraw.proofs.WriterSteps.{linked_below}
 use Rattle.vt_redraw.proofs.items.is_linked.Goals as goal
 
 pub returns-then-row-gt0 : goal.returns-then-row-gt0

@@ -7,7 +7,7 @@ use Rattle.std.proofs.Common.{[], ◌<◌, length, subst}
 use Rattle.vt_cells.proofs.Sinks.{on_err}
 use Rattle.vt_cells.specs.Attrs.{default_attrs, Attrs}
 use Rattle.vt_redraw.specs.Script.{wrapped_after_erasure}
-use Rattle.vt_redraw.proofs.Refusals.{grown, start_some}
+use Rattle.vt_redraw.proofs.WriterSteps.{grown, start_some}
 use Rattle.vt_redraw.proofs.items.write_begin.Goals as goal
 
 pub returns-then-is_wide_continuation-clause-leads : goal.returns-then-is_wide_continuation-clause-leads

@@ -5,12 +5,11 @@ use Rattle.vt_rows.specs.Cells.{blanks}
 use Rattle.vt_rows.specs.Row.{RowValue}
 use Rattle.vt_redraw.specs.Items.{linked_item}
 use Rattle.vt_redraw.specs.Script.{pen_at}
-use Rattle.vt_redraw.proofs.ItemSteps.{linked_wrote}
+use Rattle.vt_redraw.proofs.WriterSteps.{linked_wrote, text_after_some}
 use Rattle.std.proofs.Common.{refl, ◌++◌}
 use Rattle.std.proofs.lemmas.Result.{on_err_weaker}
 use Rattle.vt_cells.specs.Op.{bytes_of_all}
 use Rattle.vt_redraw.specs.Internals.{cells_from}
-use Rattle.vt_redraw.proofs.Refusals.{text_after_some}
 use Rattle.vt_redraw.proofs.items.write_linked.Goals as goal
 
 pub returns : goal.returns

@@ -9,7 +9,7 @@ use Rattle.vt_rows.specs.Row.{RowValue}
 use Rattle.vt_redraw.specs.Items.{range_written}
 use Rattle.vt_redraw.specs.Internals.{IsRange}
 use Rattle.vt_redraw.specs.Script.{Scripted, pen_at}
-use Rattle.vt_redraw.proofs.ItemSteps.{range_taken, range_wrote}
+use Rattle.vt_redraw.proofs.WriterSteps.{range_taken, range_wrote}
 use Rattle.std.proofs.Common.{◌<◌}
 use Rattle.std.proofs.lemmas.Result.{on_err_weaker}
 use Rattle.vt_redraw.proofs.items.write_over_blanks.Goals as goal

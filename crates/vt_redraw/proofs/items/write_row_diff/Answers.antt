@@ -8,13 +8,12 @@ use Rattle.vt_rows.specs.Row.{RowValue}
 use Rattle.vt_redraw.specs.Items.{item_of_difference, range_written}
 use Rattle.vt_redraw.specs.Internals.{IsRange}
 use Rattle.vt_redraw.specs.Script.{pen_at}
-use Rattle.vt_redraw.proofs.ItemSteps.{range_taken, range_wrote, part_item, whole_item}
+use Rattle.vt_redraw.proofs.WriterSteps.{range_taken, range_wrote, part_item, whole_item, range_some, text_after_some}
 use Rattle.std.proofs.Common.{◌<◌, length, refl}
 use Rattle.std.proofs.lemmas.Result.{on_err_weaker}
 use Rattle.vt_cells.proofs.Sinks.{on_err}
 use Rattle.vt_redraw.specs.Internals.{mark_of, range_over}
 use Rattle.vt_redraw.specs.Script.{row_break}
-use Rattle.vt_redraw.proofs.Refusals.{range_some, text_after_some}
 use Rattle.vt_redraw.proofs.items.write_row_diff.Goals as goal
 
 pub write_range-requires : goal.write_range-requires

@@ -1,4 +1,4 @@
-use Rattle.vt_redraw.proofs.CursorAlone.{cursor_state_local}
+use Rattle.vt_redraw.proofs.Difference.{cursor_state_local}
 use Rattle.vt_redraw.proofs.laws.cursor_state_local.Goals as goal
 
 pub returns : goal.returns

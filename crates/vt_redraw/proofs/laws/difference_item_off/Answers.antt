@@ -1,4 +1,4 @@
-use Rattle.vt_redraw.proofs.UncutItems.{item_off}
+use Rattle.vt_redraw.proofs.ItemRanges.{item_off}
 use Rattle.vt_redraw.proofs.laws.difference_item_off.Goals as goal
 
 pub returns : goal.returns

@@ -1,4 +1,4 @@
-use Rattle.vt_redraw.proofs.EmptyDifference.{difference_self}
+use Rattle.vt_redraw.proofs.Redrawing.{difference_self}
 use Rattle.vt_redraw.proofs.laws.difference_self.Goals as goal
 
 pub returns : goal.returns

@@ -1,4 +1,4 @@
-use Rattle.vt_redraw.proofs.EmptyDifference.{empty_only}
+use Rattle.vt_redraw.proofs.Redrawing.{empty_only}
 use Rattle.vt_redraw.proofs.laws.empty_only.Goals as goal
 
 pub returns : goal.returns

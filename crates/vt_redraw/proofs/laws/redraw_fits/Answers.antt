@@ -1,4 +1,4 @@
-use Rattle.vt_redraw.proofs.Fitting.{redraw_fits}
+use Rattle.vt_redraw.proofs.PictureFits.{redraw_fits}
 use Rattle.vt_redraw.proofs.laws.redraw_fits.Goals as goal
 
 pub returns : goal.returns

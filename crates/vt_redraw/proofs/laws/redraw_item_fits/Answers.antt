@@ -1,4 +1,4 @@
-use Rattle.vt_redraw.proofs.ItemFits.{redraw_item_fits}
+use Rattle.vt_redraw.proofs.PictureFits.{redraw_item_fits}
 use Rattle.vt_redraw.proofs.laws.redraw_item_fits.Goals as goal
 
 pub returns : goal.returns

@@ -1,4 +1,4 @@
-use Rattle.vt_redraw.proofs.UncutItems.{whole_cuts_none}
+use Rattle.vt_redraw.proofs.ItemRanges.{whole_cuts_none}
 use Rattle.vt_redraw.proofs.laws.whole_cuts_none.Goals as goal
 
 pub returns : goal.returns

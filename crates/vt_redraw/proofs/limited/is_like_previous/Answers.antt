@@ -1,8 +1,8 @@
 use Rattle.std.proofs.Common.{◌∙◌, ◌-◌, ap, arith, refl, subst, sym}
 use Rattle.std.proofs.lemmas.List.{get_or_read_under}
-use Rattle.vt_cells.proofs.Shapes.{head_of-same}
+use Rattle.vt_cells.proofs.Packing.{head_of-same}
 use Rattle.vt_cells.specs.Cell.{IsCell, default_blank}
-use Rattle.vt_cells.specs.CellInternals.{head_of_cell}
+use Rattle.vt_cells.specs.Internals.{head_of_cell}
 use Rattle.vt_redraw.proofs.limited.is_like_previous.Goals as goal
 
 pub returns-then-col-gt0-clause-sound : goal.returns-then-col-gt0-clause-sound

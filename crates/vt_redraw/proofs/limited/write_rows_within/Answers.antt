@@ -3,7 +3,7 @@ use Rattle.vt_grid.specs.Page.{row_or}
 use Rattle.vt_redraw.specs.Internals.{rows_under}
 use Rattle.vt_redraw.specs.Redraw.{rows_written}
 use Rattle.vt_redraw.proofs.CellSteps.{leads_text, leads_then}
-use Rattle.vt_redraw.proofs.RowSteps.{below_leads, rows_end, top_leads}
+use Rattle.vt_redraw.proofs.WriterSteps.{below_leads, rows_end, top_leads}
 use Rattle.vt_redraw.proofs.limited.write_rows_within.Goals as goal
 
 pub loop-row-init : goal.loop-row-init

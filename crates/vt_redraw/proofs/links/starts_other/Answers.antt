@@ -1,6 +1,6 @@
 use Rattle.std.proofs.Common.{◌≡◌, ◌&&◌, ◌∙◌, sym, ap, not, true}
 use Rattle.vt_cells.specs.Cell.{is_glyph, same_cell}
-use Rattle.vt_cells.proofs.SameCells.{same_cell-eq}
+use Rattle.vt_cells.proofs.Cells.{same_cell-eq}
 use Rattle.vt_rows.specs.Cells.{at}
 use Rattle.vt_redraw.proofs.Filling.{starts_at}
 use Rattle.vt_redraw.proofs.links.starts_other.Goals as goal

@@ -1,6 +1,6 @@
 use Rattle.std.proofs.Common.{◌∙◌, arith, sym}
-use Rattle.vt_cells.proofs.Shapes.{head_of-same}
-use Rattle.vt_redraw.proofs.Alike.{blank_by_head, blank_more}
+use Rattle.vt_cells.proofs.Packing.{head_of-same}
+use Rattle.vt_redraw.proofs.Writing.{blank_by_head, blank_more}
 use Rattle.vt_redraw.proofs.picture_row.blank_run.Goals as goal
 
 pub loop-count-preserved : goal.loop-count-preserved

@@ -1,8 +1,8 @@
 use Rattle.std.proofs.Common.{ℕ, length, subst, sym}
 use Rattle.vt_grid.specs.Page.{Page}
-use Rattle.vt_redraw.specs.ShiftInternals.{Shifts}
+use Rattle.vt_redraw.specs.Internals.{Shifts}
 use Rattle.vt_redraw.specs.Shifted.{IsRowShift}
-use Rattle.vt_redraw.proofs.Shifting.{more_shifts, size_so_far}
+use Rattle.vt_redraw.proofs.Moving.{more_shifts, size_so_far}
 use Rattle.vt_redraw.proofs.row_shifts.write_row_shifts.Goals.{in-Some+in_ok-write_shift-2, in_default}
 use Rattle.vt_redraw.proofs.row_shifts.write_row_shifts.Goals as goal
 

@@ -1,4 +1,4 @@
-use Rattle.vt_redraw.specs.ShiftInternals.{Shifts}
+use Rattle.vt_redraw.specs.Internals.{Shifts}
 use Rattle.vt_redraw.proofs.row_shifts.write_row_shifts.Given as goal
 
 -- The shifts of the rows so far are written and applied.

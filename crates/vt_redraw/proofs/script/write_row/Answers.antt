@@ -1,9 +1,8 @@
-use Rattle.vt_redraw.proofs.RowSteps.{row_writes}
+use Rattle.vt_redraw.proofs.WriterSteps.{row_writes, row_some, text_after_some, wrote_all}
 use Rattle.std.proofs.Common.{◌++◌}
 use Rattle.vt_cells.proofs.Sinks.{on_err}
 use Rattle.vt_cells.specs.Op.{bytes_of_all}
 use Rattle.vt_redraw.specs.Script.{row_break}
-use Rattle.vt_redraw.proofs.Refusals.{row_some, text_after_some, wrote_all}
 use Rattle.vt_redraw.proofs.script.write_row.Goals as goal
 
 pub returns-clause-writes : goal.returns-clause-writes

@@ -5,9 +5,8 @@ use Rattle.vt_grid.specs.Page.{row_or}
 use Rattle.vt_redraw.specs.Internals.{rows_under}
 use Rattle.vt_redraw.specs.Redraw.{link_of, row_written, rows_written}
 use Rattle.vt_redraw.proofs.CellSteps.{leads_text, leads_then}
-use Rattle.vt_redraw.proofs.Refusals.{after_some, grown, link_made, linked_all, rest_some, some_first, start_some}
-use Rattle.vt_redraw.proofs.Refusals.{wrote_all}
-use Rattle.vt_redraw.proofs.RowSteps.{below_leads, rows_end, top_leads}
+use Rattle.vt_redraw.proofs.WriterSteps.{after_some, grown, link_made, linked_all, rest_some, some_first, start_some}
+use Rattle.vt_redraw.proofs.WriterSteps.{wrote_all, below_leads, rows_end, top_leads}
 use Rattle.vt_redraw.proofs.script.write_rows.Goals as goal
 
 pub returns-in_err-on-clause-ops : goal.returns-in_err-on-clause-ops

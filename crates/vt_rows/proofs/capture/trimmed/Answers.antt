@@ -1,4 +1,4 @@
-use Rattle.vt_rows.proofs.Trims.{IsRow-trimmed_row}
+use Rattle.vt_rows.proofs.Rows.{IsRow-trimmed_row}
 use Rattle.vt_rows.proofs.capture.trimmed.Goals as goal
 
 pub invariant_of-result : goal.invariant_of-result

@@ -4,8 +4,7 @@ use Rattle.std.proofs.lemmas.List.Elements.{All-get_or}
 use Rattle.vt_cells.specs.Cell.{default_blank, IsCell}
 use Rattle.vt_cells.proofs.Cells.{IsCell-marked}
 use Rattle.vt_rows.specs.Cells.{at}
-use Rattle.vt_rows.proofs.Pairs.{IsPaired-marked_at}
-use Rattle.vt_rows.proofs.Sound.{All-marked_at}
+use Rattle.vt_rows.proofs.Edits.{IsPaired-marked_at, All-marked_at}
 use Rattle.vt_rows.proofs.cells.append.Goals as goal
 
 pub returns-clause-value : goal.returns-clause-value

@@ -1,6 +1,6 @@
 use Rattle.std.proofs.Common.{length, ap, sym, ◌∙◌}
 use Rattle.vt_cells.specs.Attrs.{Attrs, default_attrs, same_attrs}
-use Rattle.vt_cells.proofs.Same.{attrs_of-same}
+use Rattle.vt_cells.proofs.Attributes.{attrs_of-same}
 use Rattle.vt_rows.specs.Cells.{blanks}
 use Rattle.vt_rows.proofs.cells.clear.Goals as goal
 

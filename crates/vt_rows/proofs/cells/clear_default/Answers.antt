@@ -4,7 +4,7 @@ use Rattle.std.proofs.lemmas.Slice.{take-put_mid}
 use Rattle.vt_cells.specs.Attrs.{Attrs, default_attrs}
 use Rattle.vt_cells.specs.Cell.{CellValue, default_blank}
 use Rattle.vt_rows.specs.Cells.{blanks}
-use Rattle.vt_rows.proofs.Copying.{length-piece}
+use Rattle.vt_rows.proofs.Texts.{length-piece}
 use Rattle.vt_rows.proofs.Steps.{length-put_mid}
 use Rattle.vt_rows.proofs.cells.clear_default.Goals as goal
 

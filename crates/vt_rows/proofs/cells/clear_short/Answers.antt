@@ -1,5 +1,5 @@
 use Rattle.std.proofs.Common.{◌<◌, arith, length}
-use Rattle.vt_rows.proofs.Columns.{blanks_is}
+use Rattle.vt_rows.proofs.Edits.{blanks_is}
 use Rattle.vt_rows.proofs.cells.clear_short.Goals as goal
 
 pub put_short-requires-clause-old : goal.put_short-requires-clause-old

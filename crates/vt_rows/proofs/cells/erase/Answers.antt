@@ -2,8 +2,7 @@ use Rattle.std.proofs.Common.{◌≡◌, ◌+◌, ◌-◌, ◌≤◌, ◌<◌, l
 use Rattle.std.proofs.lemmas.List.{length-take, length-drop, length-replicate}
 use Rattle.vt_cells.specs.Cell.{default_blank, blank}
 use Rattle.vt_rows.specs.Cells.{blanks}
-use Rattle.vt_rows.proofs.Pairs.{IsPaired-erased}
-use Rattle.vt_rows.proofs.Sound.{All-erased}
+use Rattle.vt_rows.proofs.Edits.{IsPaired-erased, All-erased}
 use Rattle.vt_rows.proofs.Steps.{HasRoom-left_blanked, erase_steps, length-left_blanked, length-right_replaced}
 use Rattle.vt_rows.proofs.cells.erase.Goals as goal
 

@@ -1,7 +1,6 @@
 use Rattle.std.proofs.Common.{◌+◌, ◌≤◌, length, arith}
 use Rattle.vt_cells.specs.Cell.{blank, default_blank}
-use Rattle.vt_rows.proofs.Pairs.{IsPaired-erased}
-use Rattle.vt_rows.proofs.Sound.{All-erased}
+use Rattle.vt_rows.proofs.Edits.{IsPaired-erased, All-erased}
 use Rattle.vt_rows.proofs.Steps.{HasRoom-left_blanked, narrow_steps, read-repaired}
 use Rattle.vt_rows.proofs.cells.lift.Goals as goal
 

@@ -1,8 +1,7 @@
 use Rattle.std.proofs.Common.{◌≤◌, false, [], ◌∷◌, arith}
 use Rattle.vt_cells.specs.Cell.{glyph, cell_made_wide}
 use Rattle.vt_rows.specs.Cells.{at}
-use Rattle.vt_rows.proofs.Pairs.{IsPaired-narrowed_at}
-use Rattle.vt_rows.proofs.Sound.{All-narrowed_at}
+use Rattle.vt_rows.proofs.Edits.{IsPaired-narrowed_at, All-narrowed_at}
 use Rattle.vt_rows.proofs.Steps.{narrow_steps, left_blanked-none, read-right}
 use Rattle.vt_rows.proofs.cells.narrow.Goals as goal
 

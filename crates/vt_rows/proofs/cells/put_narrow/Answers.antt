@@ -1,7 +1,6 @@
 use Rattle.std.proofs.Common.{false}
 use Rattle.vt_cells.proofs.Glyphs.{IsGlyphText-first}
-use Rattle.vt_rows.proofs.Pairs.{IsPaired-put_narrow}
-use Rattle.vt_rows.proofs.Sound.{All-put_narrow}
+use Rattle.vt_rows.proofs.Edits.{IsPaired-put_narrow, All-put_narrow}
 use Rattle.vt_rows.proofs.Steps.{HasRoom-left_blanked, narrow_steps}
 use Rattle.vt_rows.proofs.cells.put_narrow.Goals as goal
 

@@ -1,8 +1,7 @@
 use Rattle.std.proofs.Common.{◌+◌, ◌<◌, [], ◌∷◌, length, ap, ◌∙◌, subst, arith}
 use Rattle.vt_cells.specs.Cell.{CellValue, blank, right_half, text_of, attrs_of, IsCell}
 use Rattle.vt_rows.specs.Cells.{put_cells}
-use Rattle.vt_rows.proofs.Pairs.{IsPaired-put_wide}
-use Rattle.vt_rows.proofs.Sound.{All-put_wide}
+use Rattle.vt_rows.proofs.Edits.{IsPaired-put_wide, All-put_wide}
 use Rattle.vt_rows.proofs.Steps.{HasRoom-left_blanked, wide_steps, wide_is}
 use Rattle.vt_rows.proofs.cells.put_wide_cell.Goals as goal
 

@@ -1,9 +1,9 @@
 use Rattle.std.proofs.Common.{◌≡◌, ℕ, ◌+◌, ◌-◌, ◌*◌, ◌<◌, length, ◌∙◌, ap, sym, arith}
 use Rattle.vt_cells.specs.Cell.{blank}
 use Rattle.vt_rows.specs.Cells.{put_cells}
-use Rattle.vt_rows.specs.WideTexts.{wide_glyphs_of}
+use Rattle.vt_rows.specs.Texts.{wide_glyphs_of}
 use Rattle.vt_rows.proofs.Steps.{HasRoom-left_blanked, erase_steps}
-use Rattle.vt_rows.proofs.WideTexts.{length-wide_glyphs_of, IsPaired-put_wide_text, All-put_wide_text}
+use Rattle.vt_rows.proofs.Texts.{length-wide_glyphs_of, IsPaired-put_wide_text, All-put_wide_text}
 use Rattle.vt_rows.proofs.cells.put_wide_text.Goals as goal
 
 pub blank_right-requires-clause-room : goal.blank_right-requires-clause-room

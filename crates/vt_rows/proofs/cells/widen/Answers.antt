@@ -1,8 +1,7 @@
 use Rattle.std.proofs.Common.{◌+◌, ◌<◌, ◌≤◌, true, length, arith}
 use Rattle.vt_cells.specs.Cell.{blank, cell_made_wide}
 use Rattle.vt_rows.specs.Cells.{at}
-use Rattle.vt_rows.proofs.Pairs.{IsPaired-widened_at}
-use Rattle.vt_rows.proofs.Sound.{All-widened_at}
+use Rattle.vt_rows.proofs.Edits.{IsPaired-widened_at, All-widened_at}
 use Rattle.vt_rows.proofs.Steps.{wide_steps, left_blanked-none, read-right}
 use Rattle.vt_rows.proofs.cells.widen.Goals as goal
 

@@ -4,9 +4,8 @@ use Rattle.std.proofs.lemmas.List.{take_all}
 use Rattle.std.proofs.lemmas.Slice.{take-put_mid}
 use Rattle.vt_cells.specs.Cell.{CellValue}
 use Rattle.vt_rows.specs.Texts.{glyphs_of}
-use Rattle.vt_rows.proofs.Copying.{length-piece}
+use Rattle.vt_rows.proofs.Texts.{length-piece, length-glyphs_of, glyphs_on}
 use Rattle.vt_rows.proofs.Steps.{length-put_mid}
-use Rattle.vt_rows.proofs.Texts.{length-glyphs_of, glyphs_on}
 use Rattle.vt_rows.proofs.cells.write_text.Goals as goal
 
 pub loop-done-preserved : goal.loop-done-preserved

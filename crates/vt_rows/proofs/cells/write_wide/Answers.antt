@@ -1,6 +1,6 @@
 use Rattle.std.proofs.Common.{◌≡◌, ◌≢◌, ℕ, ◌<◌, Some, length, subst, sym, arith}
 use Rattle.vt_cells.specs.Glyph.{columns_of}
-use Rattle.vt_rows.proofs.WideTexts.{wide_glyphs_of_is}
+use Rattle.vt_rows.proofs.Texts.{wide_glyphs_of_is}
 use Rattle.vt_rows.proofs.cells.write_wide.Goals as goal
 
 pub set_glyph-requires-clause-reported : goal.set_glyph-requires-clause-reported

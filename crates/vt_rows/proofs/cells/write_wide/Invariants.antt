@@ -2,7 +2,7 @@
 use Rattle.std.proofs.Common.{◌≡◌, ℕ, ◌+◌, ◌*◌, ◌<◌, get_or}
 use Rattle.vt_cells.specs.Cell.{right_half}
 use Rattle.vt_rows.specs.Cells.{at}
-use Rattle.vt_rows.specs.WideTexts.{wide_glyph}
+use Rattle.vt_rows.specs.Texts.{wide_glyph}
 use Rattle.vt_rows.proofs.cells.write_wide.Given as goal
 
 abbrev pub invariant-loop-k : goal.invariant-loop-k

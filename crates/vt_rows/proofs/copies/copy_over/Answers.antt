@@ -1,7 +1,7 @@
 use Rattle.std.proofs.Common.{◌≡◌, ◌≤◌, ◌-◌, ◌++◌, List, length, take, ap, ◌∙◌, arith}
 use Rattle.std.proofs.lemmas.Slice.{take-put_mid}
 use Rattle.vt_cells.specs.Cell.{CellValue}
-use Rattle.vt_rows.proofs.Copying.{piece_taken, length-piece}
+use Rattle.vt_rows.proofs.Texts.{piece_taken, length-piece}
 use Rattle.vt_rows.proofs.Steps.{length-put_mid}
 use Rattle.vt_rows.proofs.copies.copy_over.Goals as goal
 

@@ -2,7 +2,7 @@ use Rattle.std.proofs.Common.{◌≡◌, ◌≤◌, ◌+◌, ◌++◌, Bool, Lis
 use Rattle.std.specs.Prelude.{slice_range, if◌then◌else◌}
 use Rattle.std.proofs.lemmas.List.{append_assoc}
 use Rattle.vt_cells.specs.Cell.{CellValue}
-use Rattle.vt_rows.proofs.Copying.{piece_taken, length-piece}
+use Rattle.vt_rows.proofs.Texts.{piece_taken, length-piece}
 use Rattle.vt_rows.proofs.copies.push_copies.Goals as goal
 
 pub loop-done-preserved : goal.loop-done-preserved

@@ -1,6 +1,6 @@
 use Rattle.std.proofs.Common.{◌++◌, ◌∙◌, List, ℕ, ap, append-nil, length, sym, arith}
 use Rattle.vt_cells.proofs.Cells.{text_short}
-use Rattle.vt_rows.proofs.PlainTexts.{contents_shown, half_shown, other_shown}
+use Rattle.vt_rows.proofs.RowTexts.{contents_shown, half_shown, other_shown}
 use Rattle.vt_rows.proofs.plain.push_cell.Goals as goal
 
 pub push-requires : goal.push-requires

@@ -2,9 +2,9 @@ use Rattle.std.proofs.Common.{List, ◌≡◌, ℕ, ◌-◌, ◌<◌, length, ta
 use Rattle.std.proofs.lemmas.List.{get_or_default, length-take-le}
 use Rattle.vt_cells.specs.Cell.{CellValue, default_blank, is_glyph}
 use Rattle.vt_rows.specs.Cells.{at}
-use Rattle.vt_rows.proofs.Columns.{at-past}
-use Rattle.vt_rows.proofs.PlainTexts.{up_to_is}
-use Rattle.vt_rows.proofs.Trims.{at-trimmed}
+use Rattle.vt_rows.proofs.Edits.{at-past}
+use Rattle.vt_rows.proofs.RowTexts.{up_to_is}
+use Rattle.vt_rows.proofs.Rows.{at-trimmed}
 use Rattle.vt_rows.proofs.plain.text_end.Goals as goal
 
 pub loop-len-init : goal.loop-len-init

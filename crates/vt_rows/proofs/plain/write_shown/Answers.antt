@@ -4,7 +4,7 @@ use Rattle.std.proofs.lemmas.List.{length-drop, take_rest}
 use Rattle.vt_cells.proofs.Sinks.{on_err, some_among}
 use Rattle.vt_rows.specs.Basic.{shown_text}
 use Rattle.vt_rows.specs.Internals.{Shows}
-use Rattle.vt_rows.proofs.PlainTexts.{shown_more, shown_start}
+use Rattle.vt_rows.proofs.RowTexts.{shown_more, shown_start}
 use Rattle.vt_rows.proofs.plain.write_shown.Goals as goal
 
 pub loop-count-init : goal.loop-count-init

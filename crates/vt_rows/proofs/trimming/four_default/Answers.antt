@@ -2,7 +2,7 @@ use Rattle.std.proofs.Common.{◌∙◌, sym, arith}
 use Rattle.std.proofs.lemmas.Bool.{and_parts}
 use Rattle.std.proofs.lemmas.List.{get_or_default}
 use Rattle.vt_cells.specs.Cell.{default_blank}
-use Rattle.vt_rows.proofs.Trims.{default_same, four_blanks}
+use Rattle.vt_rows.proofs.Rows.{default_same, four_blanks}
 use Rattle.vt_rows.proofs.trimming.four_default.Goals as goal
 
 pub returns : goal.returns

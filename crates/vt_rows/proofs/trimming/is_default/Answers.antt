@@ -1,5 +1,5 @@
 use Rattle.std.proofs.Common.{◌∙◌, sym}
-use Rattle.vt_rows.proofs.Trims.{default_is}
+use Rattle.vt_rows.proofs.Rows.{default_is}
 use Rattle.vt_rows.proofs.trimming.is_default.Goals as goal
 
 pub returns-then-is_blank : goal.returns-then-is_blank

@@ -4,8 +4,8 @@ use Rattle.std.proofs.lemmas.List.{length-append, length-drop, length-take-le}
 use Rattle.vt_cells.specs.Cell.{CellValue}
 use Rattle.vt_rows.specs.Cells.{at}
 use Rattle.vt_rows.specs.Internals.{end_blanked}
-use Rattle.vt_rows.proofs.Columns.{at-past, at-blanks}
-use Rattle.vt_rows.proofs.Copying.{at-copied, at-after_copied}
+use Rattle.vt_rows.proofs.Edits.{at-past, at-blanks}
+use Rattle.vt_rows.proofs.Texts.{at-copied, at-after_copied}
 use Rattle.vt_rows.proofs.ShiftSteps.{resized_is}
 use Rattle.vt_rows.proofs.trimming.refit.Goals as goal
 

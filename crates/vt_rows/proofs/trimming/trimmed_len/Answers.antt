@@ -4,7 +4,7 @@ use Rattle.std.proofs.lemmas.Bool.{cases_eq}
 use Rattle.std.proofs.lemmas.List.{get_or_default}
 use Rattle.vt_cells.specs.Cell.{default_blank, is_default_blank}
 use Rattle.vt_rows.specs.Cells.{at}
-use Rattle.vt_rows.proofs.Trims.{trimmed_is, default_same, eight_more}
+use Rattle.vt_rows.proofs.Rows.{trimmed_is, default_same, eight_more}
 use Rattle.vt_rows.proofs.trimming.trimmed_len.Goals as goal
 
 pub loop-len-preserved : goal.loop-len-preserved

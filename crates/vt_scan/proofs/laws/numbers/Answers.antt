@@ -1,5 +1,5 @@
 -- Decimal numbers.
-use Rattle.vt_scan.proofs.Written.{empty_groups, decimal_groups, joined_groups, place_groups_are}
+use Rattle.vt_scan.proofs.ParameterNumbers.{empty_groups, decimal_groups, joined_groups, place_groups_are}
 use Rattle.vt_scan.proofs.laws.numbers.Goals as goal
 
 pub returns : goal.returns

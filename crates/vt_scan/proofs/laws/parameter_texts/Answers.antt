@@ -1,5 +1,5 @@
 -- Numbers as parameter bytes.
-use Rattle.vt_scan.proofs.Written.{decimal_is_parameter, joined_is_parameter, place_is_parameter}
+use Rattle.vt_scan.proofs.ParameterNumbers.{decimal_is_parameter, joined_is_parameter, place_is_parameter}
 use Rattle.vt_scan.proofs.laws.parameter_texts.Goals as goal
 
 pub returns : goal.returns

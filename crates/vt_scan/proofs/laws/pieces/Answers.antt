@@ -1,7 +1,7 @@
 -- Runs over input that is split.
 use Rattle.std.proofs.Common.{ap}
 use Rattle.vt_scan.specs.Automaton.{Step}
-use Rattle.vt_scan.proofs.Running.{run-append}
+use Rattle.vt_scan.proofs.Readback.{run-append}
 use Rattle.vt_scan.proofs.laws.pieces.Goals as goal
 
 pub returns : goal.returns

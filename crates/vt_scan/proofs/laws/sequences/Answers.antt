@@ -1,6 +1,5 @@
 -- Complete sequences.
-use Rattle.vt_scan.proofs.Readback.{read_escape}
-use Rattle.vt_scan.proofs.Sequences.{read_csi, read_private}
+use Rattle.vt_scan.proofs.Readback.{read_escape, read_csi, read_private}
 use Rattle.vt_scan.proofs.laws.sequences.Goals as goal
 
 pub returns : goal.returns

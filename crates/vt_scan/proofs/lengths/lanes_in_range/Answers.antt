@@ -1,4 +1,4 @@
-use Rattle.vt_scan.proofs.Lanes.{range_mask}
+use Rattle.vt_scan.proofs.Lists.{range_mask}
 use Rattle.vt_scan.proofs.lengths.lanes_in_range.Goals as goal
 
 pub returns : goal.returns

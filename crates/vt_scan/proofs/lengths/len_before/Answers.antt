@@ -1,6 +1,6 @@
 use Rattle.std.proofs.Common.{arith}
-use Rattle.vt_scan.specs.Ranges.{is_in_range}
-use Rattle.vt_scan.proofs.Lanes.{ends_here, ends_inside, ends_run, run_more}
+use Rattle.vt_scan.specs.Internals.{is_in_range}
+use Rattle.vt_scan.proofs.Lists.{ends_here, ends_inside, ends_run, run_more}
 use Rattle.vt_scan.proofs.lengths.len_before.Goals as goal
 
 pub returns-then-found-ne0-clause-inside : goal.returns-then-found-ne0-clause-inside

@@ -1,6 +1,6 @@
 use Rattle.std.proofs.Common.{◌-◌, ◌≤◌, length}
-use Rattle.vt_scan.specs.Ranges.{is_in_range}
-use Rattle.vt_scan.proofs.Lanes.{IsRun}
+use Rattle.vt_scan.specs.Internals.{is_in_range}
+use Rattle.vt_scan.proofs.Lists.{IsRun}
 use Rattle.vt_scan.proofs.lengths.len_before.Given as goal
 
 abbrev pub invariant-loop-len : goal.invariant-loop-len

@@ -1,5 +1,5 @@
 use Rattle.std.proofs.Common.{◌≢◌}
-use Rattle.vt_scan.proofs.Lanes.{All-run, semicolon}
+use Rattle.vt_scan.proofs.Lists.{All-run, semicolon}
 use Rattle.vt_scan.proofs.lengths.part_len.Goals as goal
 
 pub returns-clause-part : goal.returns-clause-part

@@ -1,5 +1,5 @@
 use Rattle.vt_scan.specs.Scanner.{IsPrintableByte}
-use Rattle.vt_scan.proofs.Lanes.{All-run, unprintable}
+use Rattle.vt_scan.proofs.Lists.{All-run, unprintable}
 use Rattle.vt_scan.proofs.lengths.printable_len.Goals as goal
 
 pub returns-clause-printable : goal.returns-clause-printable

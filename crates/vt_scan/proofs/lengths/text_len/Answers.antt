@@ -1,5 +1,5 @@
 use Rattle.std.proofs.Common.{◌≤◌}
-use Rattle.vt_scan.proofs.Lanes.{AllByRecursion-run, control}
+use Rattle.vt_scan.proofs.Lists.{AllByRecursion-run, control}
 use Rattle.vt_scan.proofs.lengths.text_len.Goals as goal
 
 pub returns-clause-text : goal.returns-clause-text

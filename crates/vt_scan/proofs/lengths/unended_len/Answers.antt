@@ -1,6 +1,6 @@
 use Rattle.std.proofs.Common.{arith}
 use Rattle.vt_scan.specs.Internals.{IsUnended}
-use Rattle.vt_scan.proofs.Lanes.{AllByRecursion-run, unended_more, unended_next}
+use Rattle.vt_scan.proofs.Lists.{AllByRecursion-run, unended_more, unended_next}
 use Rattle.vt_scan.proofs.lengths.unended_len.Goals as goal
 
 pub loop-len-preserved : goal.loop-len-preserved

@@ -1,7 +1,6 @@
 -- The bytes so far cannot end a string, and the next one, if there is one, is in the range of those that can.
 use Rattle.std.proofs.Common.{◌≡◌, ◌<◌, ◌-◌, ◌≤◌, ℕ, length, get_or, true}
-use Rattle.vt_scan.specs.Internals.{IsUnended}
-use Rattle.vt_scan.specs.Ranges.{is_in_range}
+use Rattle.vt_scan.specs.Internals.{IsUnended, is_in_range}
 use Rattle.vt_scan.proofs.lengths.unended_len.Given as goal
 
 abbrev pub invariant-loop-len : goal.invariant-loop-len

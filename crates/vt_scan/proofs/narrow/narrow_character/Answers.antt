@@ -1,6 +1,6 @@
 use Rattle.std.proofs.Common.{◌<◌, length, arith}
 use Rattle.std.proofs.lemmas.Bool.Decides.{nat_tests}
-use Rattle.vt_scan.proofs.NarrowTexts.{coded_narrow, first_narrow}
+use Rattle.vt_scan.proofs.Characters.{coded_narrow, first_narrow}
 use Rattle.vt_scan.proofs.narrow.narrow_character.Goals as goal
 
 pub returns-then-is_between-clause-narrow : goal.returns-then-is_between-clause-narrow

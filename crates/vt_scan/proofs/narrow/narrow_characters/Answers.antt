@@ -2,8 +2,8 @@ use Rattle.std.proofs.Common.{ℕ, ◌+◌, ◌<◌, ◌++◌, ◌∷◌, [], Li
 use Rattle.std.specs.Prelude.{slice_set}
 use Rattle.std.proofs.Math.Seq.{take-add}
 use Rattle.std.proofs.lemmas.List.{length-drop, take_more_set}
-use Rattle.vt_scan.specs.NarrowTexts.{AreNarrow}
-use Rattle.vt_scan.proofs.NarrowTexts.{all_left, narrow_none, narrow_then}
+use Rattle.vt_scan.specs.Texts.{AreNarrow}
+use Rattle.vt_scan.proofs.Characters.{all_left, narrow_none, narrow_then}
 use Rattle.vt_scan.proofs.narrow.narrow_characters.Goals as goal
 
 pub loop-done-init : goal.loop-done-init

@@ -1,6 +1,6 @@
 -- The loop invariant: the bytes read so far are parsed as the narrow characters decoded so far.
 use Rattle.std.proofs.Common.{◌-◌, ◌≤◌, length, take}
-use Rattle.vt_scan.specs.NarrowTexts.{AreNarrow}
+use Rattle.vt_scan.specs.Texts.{AreNarrow}
 use Rattle.vt_scan.proofs.narrow.narrow_characters.Given as goal
 
 abbrev pub invariant-loop-done : goal.invariant-loop-done

@@ -1,5 +1,5 @@
 use Rattle.std.proofs.Common.{sym, arith}
-use Rattle.vt_scan.proofs.NarrowTexts.{coded_three, whole_three}
+use Rattle.vt_scan.proofs.Characters.{coded_three, whole_three}
 use Rattle.vt_scan.proofs.narrow.narrow_three.Goals as goal
 
 pub join_three-found-requires : goal.join_three-found-requires

@@ -1,5 +1,5 @@
 use Rattle.std.proofs.Common.{sym, arith}
-use Rattle.vt_scan.proofs.NarrowTexts.{coded_two, whole_two}
+use Rattle.vt_scan.proofs.Characters.{coded_two, whole_two}
 use Rattle.vt_scan.proofs.narrow.narrow_two.Goals as goal
 
 pub join_two-found-requires : goal.join_two-found-requires

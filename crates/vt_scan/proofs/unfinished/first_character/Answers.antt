@@ -1,6 +1,6 @@
 -- If no character is found, the bytes do not begin with one.
 use Rattle.std.proofs.Common.{◌∙◌, arith}
-use Rattle.vt_scan.proofs.Whole.{begun}
+use Rattle.vt_scan.proofs.Readback.{begun}
 use Rattle.vt_scan.proofs.unfinished.first_character.Goals as goal
 use Rattle.vt_scan.proofs.unfinished.first_character.Goals.{
   then-bytes-lt2-via-then-bytes-lt2,

@@ -2,7 +2,7 @@ use Rattle.std.proofs.Common.{ℕ, ◌<◌, length, inl, inr, sym, subst, arith}
 use Rattle.std.specs.Prelude.{slice_index_or, slice_set}
 use Rattle.std.proofs.lemmas.Bool.{cases_eq}
 use Rattle.std.proofs.lemmas.List.{get_or-set_same, get_or-set_other}
-use Rattle.vt_scan.specs.WideTexts.{IsWideThree, three_at}
+use Rattle.vt_scan.specs.Texts.{IsWideThree, three_at}
 use Rattle.vt_scan.proofs.unfinished.wide_characters.Goals as goal
 
 pub loop-done-preserved : goal.loop-done-preserved

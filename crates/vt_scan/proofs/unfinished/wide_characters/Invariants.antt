@@ -1,6 +1,6 @@
 -- The loop invariant: the characters before the current one are decoded.
 use Rattle.std.proofs.Common.{◌-◌, ◌≤◌}
-use Rattle.vt_scan.specs.WideTexts.{AreWideThrees}
+use Rattle.vt_scan.specs.Texts.{AreWideThrees}
 use Rattle.vt_scan.proofs.unfinished.wide_characters.Given as goal
 
 abbrev pub invariant-loop-done : goal.invariant-loop-done

@@ -1,6 +1,6 @@
-use Rattle.vt_screen.proofs.Escapes.{capture_only, drawn_only, plain_only, reset_only, shortened_moves_only, state_only}
-use Rattle.vt_screen.proofs.Escapes.{state_with_options_only, state_with_scrolling_only, with_options_only}
-use Rattle.vt_screen.proofs.Escapes.{with_scrolling_only}
+use Rattle.vt_screen.proofs.MadeEscapes.{capture_only, drawn_only, plain_only, reset_only, shortened_moves_only}
+use Rattle.vt_screen.proofs.MadeEscapes.{state_only, state_with_options_only, state_with_scrolling_only}
+use Rattle.vt_screen.proofs.MadeEscapes.{with_options_only, with_scrolling_only}
 use Rattle.vt_screen.proofs.laws.escapes.Goals as goal
 
 pub returns-clause-drawing : goal.returns-clause-drawing

@@ -1,4 +1,4 @@
-use Rattle.vt_screen.proofs.CaptureTexts.{fresh_capture}
+use Rattle.vt_screen.proofs.MadeCaptures.{fresh_capture}
 use Rattle.vt_screen.proofs.laws.fresh_capture.Goals as goal
 
 pub returns : goal.returns

@@ -1,4 +1,4 @@
-use Rattle.vt_screen.proofs.SelectorRuns.{fresh_has_none, resized_has_none, run_keeps, shows_none, viewed_has_none}
+use Rattle.vt_screen.proofs.Selectors.{fresh_has_none, resized_has_none, run_keeps, shows_none, viewed_has_none}
 use Rattle.vt_screen.proofs.laws.no_selectors.Goals as goal
 
 pub returns : goal.returns

@@ -1,6 +1,6 @@
 use Rattle.std.proofs.Common.{ap}
 use Rattle.vt_redraw.specs.Picture.{Picture}
-use Rattle.vt_screen.proofs.Seen.{same_between, same_cell_shown, same_contents, same_row, same_rows, size_of_shown}
+use Rattle.vt_screen.proofs.Shown.{same_between, same_cell_shown, same_contents, same_row, same_rows, size_of_shown}
 use Rattle.vt_screen.proofs.laws.same_shown.Goals as goal
 
 pub returns : goal.returns

@@ -1,6 +1,4 @@
-use Rattle.vt_screen.proofs.Seen.{shown_cell, shown_rows, size_from_shown}
-use Rattle.vt_screen.proofs.Shown.{shown_height, shown_is}
-use Rattle.vt_screen.proofs.Viewing.{same_shown}
+use Rattle.vt_screen.proofs.Shown.{shown_cell, shown_rows, size_from_shown, shown_height, shown_is, same_shown}
 use Rattle.vt_screen.proofs.laws.shown_is.Goals as goal
 
 pub returns : goal.returns

@@ -1,4 +1,4 @@
-use Rattle.vt_screen.proofs.Seen.{steady_without}
+use Rattle.vt_screen.proofs.Shown.{steady_without}
 use Rattle.vt_screen.proofs.laws.steady_without_selectors.Goals as goal
 
 pub returns : goal.returns

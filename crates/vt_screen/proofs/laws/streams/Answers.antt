@@ -1,5 +1,5 @@
-use Rattle.vt_screen.proofs.WhateverScrollback.{both_screen_in, both_sent_in}
-use Rattle.vt_screen.proofs.EventSteps.{run_streams}
+use Rattle.vt_screen.proofs.StepScrollback.{both_screen_in, both_sent_in}
+use Rattle.vt_screen.proofs.StepEvents.{run_streams}
 use Rattle.vt_screen.proofs.Streaming.{held_screen}
 use Rattle.vt_screen.proofs.laws.streams.Goals as goal
 

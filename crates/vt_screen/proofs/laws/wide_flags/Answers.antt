@@ -1,4 +1,4 @@
-use Rattle.vt_screen.proofs.WideFlags.{wide_cleared, wide_fresh, wide_resized, wide_run, wide_view}
+use Rattle.vt_screen.proofs.StepEvents.{wide_cleared, wide_fresh, wide_resized, wide_run, wide_view}
 use Rattle.vt_screen.proofs.laws.wide_flags.Goals as goal
 
 pub returns : goal.returns

@@ -1,5 +1,5 @@
 use Rattle.std.proofs.Common.{◌-◌, ◌≤◌, length, take}
-use Rattle.vt_screen.specs.RepeatInternals.{KeepsRoom}
+use Rattle.vt_screen.specs.Internals.{KeepsRoom}
 use Rattle.vt_screen.proofs.repeats.find_run.Given as goal
 
 abbrev pub invariant-loop-at : goal.invariant-loop-at

@@ -1,7 +1,7 @@
 use Rattle.std.proofs.Common.{◌≡◌, ◌-◌, ◌∙◌, ℕ, ap, get_or, max, subst, sym, []}
 use Rattle.vt_cells.specs.Op.{csi}
 use Rattle.vt_scan.specs.Parameters.{GroupTable}
-use Rattle.vt_screen.specs.RepeatInternals.{KeepsRoom}
+use Rattle.vt_screen.specs.Internals.{KeepsRoom}
 use Rattle.vt_screen.proofs.RepeatRooms.{keeps_column, keeps_place, keeps_right}
 use Rattle.vt_screen.proofs.repeats.room_after.Goals as goal
 

@@ -1,6 +1,6 @@
 use Rattle.std.proofs.Common.{◌≡◌, ℕ, List, ◌-◌, ◌⊎◌, inl, inr, ◌∙◌, ap, get_or, sym, subst}
 use Rattle.std.specs.Prelude.{IfSome, Option, Some, None}
-use Rattle.vt_screen.specs.RepeatInternals.{Skips}
+use Rattle.vt_screen.specs.Internals.{Skips}
 use Rattle.vt_screen.specs.declared.repeats.Skipped.{Skipped}
 use Rattle.vt_screen.proofs.RepeatTokens.{skips_one}
 use Rattle.vt_screen.proofs.RepeatRooms.{keeps_back, keeps_feed, keeps_return, keeps_tab}

@@ -2,7 +2,7 @@ use Rattle.std.proofs.Common.{◌∙◌, ℕ, ap, subst, sym}
 use Rattle.std.proofs.lemmas.Str.{length-encode}
 use Rattle.std.specs.Char.{encode_utf8}
 use Rattle.std.specs.Prelude.{Some}
-use Rattle.vt_screen.specs.RepeatInternals.{KeepsRoom}
+use Rattle.vt_screen.specs.Internals.{KeepsRoom}
 use Rattle.vt_screen.proofs.RepeatRooms.{keeps_drawn, keeps_narrow}
 use Rattle.vt_screen.proofs.RepeatTokens.{skips_character}
 use Rattle.vt_screen.proofs.repeats.skip_character.Goals as goal

@@ -1,5 +1,5 @@
 use Rattle.vt_screen.proofs.PortableRepeats.{agreed_itself}
-use Rattle.vt_screen.proofs.Repeated.{pieces_kept, repeats_itself}
+use Rattle.vt_screen.proofs.RepeatRead.{pieces_kept, repeats_itself}
 use Rattle.vt_screen.proofs.repeats.with_repeats.Goals as goal
 
 pub returns-then-eq-clause-text : goal.returns-then-eq-clause-text

@@ -1,4 +1,4 @@
-use Rattle.vt_screen.proofs.Repeated.{written_end, written_nothing, written_run}
+use Rattle.vt_screen.proofs.RepeatRead.{written_end, written_nothing, written_run}
 use Rattle.vt_screen.proofs.repeats.write_repeating.Goals as goal
 
 pub loop-run-init : goal.loop-run-init

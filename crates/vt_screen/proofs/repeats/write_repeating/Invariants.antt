@@ -1,5 +1,5 @@
 use Rattle.std.proofs.Common.{IsUtf8, length}
-use Rattle.vt_screen.proofs.Repeated.{Written}
+use Rattle.vt_screen.proofs.RepeatRead.{Written}
 use Rattle.vt_screen.proofs.repeats.write_repeating.Given as goal
 
 abbrev pub invariant-loop-run : goal.invariant-loop-run

@@ -1,5 +1,5 @@
 use Rattle.std.proofs.Common.{string_bytes}
-use Rattle.vt_screen.proofs.KnownSteps.{moved_instead}
+use Rattle.vt_screen.proofs.ShortMoves.{moved_instead}
 use Rattle.vt_screen.proofs.short_moves.add_element.Goals as goal
 
 pub returns-in_ok-at-in-Some-clause-appends : goal.returns-in_ok-at-in-Some-clause-appends

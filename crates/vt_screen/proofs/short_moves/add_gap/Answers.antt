@@ -1,5 +1,5 @@
 use Rattle.std.proofs.Common.{arith, string_bytes}
-use Rattle.vt_screen.proofs.KnownSteps.{gap_instead}
+use Rattle.vt_screen.proofs.ShortMoves.{gap_instead}
 use Rattle.vt_screen.proofs.short_moves.add_gap.Goals as goal
 
 pub write_gap-requires-clause-short : goal.write_gap-requires-clause-short

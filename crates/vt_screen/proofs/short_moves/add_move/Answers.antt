@@ -1,6 +1,6 @@
 use Rattle.std.proofs.Common.{string_bytes}
 use Rattle.vt_screen.proofs.PortableMoves.{route_keeps}
-use Rattle.vt_screen.proofs.RoutesRead.{move_appended}
+use Rattle.vt_screen.proofs.ReadRoutes.{move_appended}
 use Rattle.vt_screen.proofs.short_moves.add_move.Goals as goal
 
 pub returns-in-Some-clause-appends : goal.returns-in-Some-clause-appends

@@ -1,7 +1,7 @@
 use Rattle.std.proofs.Common.{◌<◌, arith, rules, length, string_bytes}
 use Rattle.vt_screen.specs.ShortMoves.{row_start_text}
 use Rattle.vt_screen.proofs.PortableMoves.{row_start_keeps}
-use Rattle.vt_screen.proofs.RowStarts.{row_start_appended}
+use Rattle.vt_screen.proofs.ReadRoutes.{row_start_appended}
 use Rattle.vt_screen.proofs.short_moves.add_place.Goals as goal
 
 pub returns-then-row_start_len-head-clause-appends : goal.returns-then-row_start_len-head-clause-appends

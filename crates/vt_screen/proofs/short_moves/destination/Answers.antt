@@ -1,7 +1,7 @@
 use Rattle.std.proofs.Common.{subst, sym, List, ℕ}
 use Rattle.vt_screen.specs.ShortMoves.{IsElement, LeadsTo}
 use Rattle.vt_screen.specs.declared.short_moves.elements.Element.{Element}
-use Rattle.vt_screen.proofs.ElementsRead.{next_row_target, place_leads, right_target}
+use Rattle.vt_screen.proofs.ReadElements.{next_row_target, place_leads, right_target}
 use Rattle.vt_screen.proofs.PortableMoves.{next_row_settles, place_settles, right_target_settles}
 use Rattle.vt_screen.proofs.short_moves.destination.Goals as goal
 

@@ -1,5 +1,5 @@
 use Rattle.std.proofs.Common.{refl}
-use Rattle.vt_screen.proofs.Instead.{copied_stands}
+use Rattle.vt_screen.proofs.ShortOutput.{copied_stands}
 use Rattle.vt_screen.proofs.short_moves.known_after.Goals as goal
 
 pub returns : goal.returns

@@ -1,4 +1,4 @@
-use Rattle.vt_screen.proofs.ElementsRead.{element_copied}
+use Rattle.vt_screen.proofs.ReadElements.{element_copied}
 use Rattle.vt_screen.proofs.short_moves.place_after.Goals as goal
 
 pub returns-then-not-keeps_place-clause-replaces : goal.returns-then-not-keeps_place-clause-replaces

@@ -1,8 +1,8 @@
 use Rattle.std.proofs.Common.{subst, sym, ◌∙◌}
 use Rattle.vt_screen.specs.ShortMoves.{IsElement}
 use Rattle.vt_screen.specs.declared.short_moves.elements.Element.{Element}
-use Rattle.vt_screen.proofs.ElementsRead.{after_ascii, after_character, element_copied, still_element}
-use Rattle.vt_screen.proofs.KnownSteps.{printed_ascii, printed_other, printed_still}
+use Rattle.vt_screen.proofs.ReadElements.{after_ascii, after_character, element_copied, still_element}
+use Rattle.vt_screen.proofs.ShortMoves.{printed_ascii, printed_other, printed_still}
 use Rattle.vt_screen.proofs.short_moves.position_after.Goals as goal
 
 pub returns-in-Some-clause-replaces : goal.returns-in-Some-clause-replaces

@@ -1,6 +1,6 @@
 use Rattle.std.proofs.Common.{rules, length, string_bytes, sym, subst, ℕ, List}
 use Rattle.vt_screen.specs.Gaps.{AppendsUpTo, ReplacesTracked, picture_cell}
-use Rattle.vt_screen.proofs.Instead.{underway_first, underway_moved, underway_read, underway_whole}
+use Rattle.vt_screen.proofs.ShortMoves.{underway_first, underway_moved, underway_read, underway_whole}
 use Rattle.vt_screen.proofs.short_moves.with_short_moves.Goals as goal
 
 pub loop-rest-init : goal.loop-rest-init

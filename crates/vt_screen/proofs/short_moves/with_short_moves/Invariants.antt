@@ -3,7 +3,7 @@ use Rattle.std.proofs.Common.{length, string_bytes}
 use denote.Text.{Utf8}
 use denote.Shadow.{shadow}
 use Rattle.vt_screen.specs.Gaps.{picture_cell}
-use Rattle.vt_screen.proofs.Instead.{IsUnderway}
+use Rattle.vt_screen.proofs.ShortMoves.{IsUnderway}
 use Rattle.vt_screen.proofs.short_moves.with_short_moves.Given as goal
 
 abbrev pub invariant-loop-rest : goal.invariant-loop-rest

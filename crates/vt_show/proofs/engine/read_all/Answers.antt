@@ -1,6 +1,6 @@
 use Rattle.std.proofs.Common.{take, sym, ◌∙◌}
 use Rattle.vt100.specs.Parser.{Ran, does_nothing}
-use Rattle.vt_show.proofs.Reading.{ok_ran, read_on}
+use Rattle.vt_show.proofs.Chunks.{ok_ran, read_on}
 use Rattle.vt_show.proofs.engine.read_all.Goals as goal
 
 pub loop-preserved : goal.loop-preserved

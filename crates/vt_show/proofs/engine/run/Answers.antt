@@ -2,7 +2,7 @@ use Rattle.std.proofs.Common.{◌∙◌, ℕ, List, rules, subst, sym}
 use Rattle.std.specs.Int.NonZero.{non_zero_u16_get}
 use Rattle.std.specs.Io.KnownBytes.{Appends}
 use Rattle.vt_show.specs.Shown.{AppendsPart, IsOfMode, ReadsForText}
-use Rattle.vt_show.proofs.Reading.{for_text, on_err_of, on_ok_then}
+use Rattle.vt_show.proofs.Chunks.{for_text, on_err_of, on_ok_then}
 use Rattle.vt_show.proofs.engine.run.Goals as goal
 
 pub returns : goal.returns

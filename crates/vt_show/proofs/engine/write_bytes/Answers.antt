@@ -1,7 +1,7 @@
 -- A write accepted a prefix of what is left, or was interrupted.
 use Rattle.std.proofs.Common.{ℕ, List, Bor, sym, subst}
 use Rattle.vt_show.specs.Internals.{HasWrittenTo}
-use Rattle.vt_show.proofs.Writing.{written_kept, written_more}
+use Rattle.vt_show.proofs.Chunks.{written_kept, written_more}
 use Rattle.vt_show.proofs.engine.write_bytes.Goals.{in-Ok, in-Err}
 use Rattle.vt_show.proofs.engine.write_bytes.Goals as goal
 

@@ -14,7 +14,7 @@ use Rattle.std.proofs.MapsCrossing as maps
 use Rattle.vt_rows.proofs.capture.state.BasicFormattedCaptureState.TheSendSync as capture
 use Rattle.vt_screen.proofs.screen.Screen.TheSendSync as screen
 use Rattle.vt100.proofs.parser.Parser.TheSendSync as parser
-use Rattle.vt_mirror.proofs.Sending.{mirror_send}
+use Rattle.vt_mirror.proofs.Sharing.{mirror_send}
 use Rattle.vt100_c.proofs.event_log.Events.TheSendSync as events
 use Rattle.vt100_c.specs.contracts.object.Object as Object
 use Rattle.vt100_c.specs.Held.{heap, held_at}

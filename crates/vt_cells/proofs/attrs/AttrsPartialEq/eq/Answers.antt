@@ -1,5 +1,5 @@
 use Rattle.std.proofs.Common.{sym, ◌∙◌}
-use Rattle.vt_cells.proofs.Same.{attrs_eq-same}
+use Rattle.vt_cells.proofs.Attributes.{attrs_eq-same}
 use Rattle.vt_cells.proofs.attrs.AttrsPartialEq.eq.Goals as goal
 
 pub returns-clause-value : goal.returns-clause-value

@@ -1,6 +1,6 @@
 use Rattle.std.proofs.Common.{[], List, ℕ, refl, subst, append-nil, arith}
 use Rattle.std.proofs.lemmas.Result.{on_err_weaker}
-use Rattle.vt_cells.specs.BufferInternals.{buffered_text}
+use Rattle.vt_cells.specs.Internals.{buffered_text}
 use Rattle.vt_cells.specs.Sinks.{IsStopped}
 use Rattle.vt_cells.proofs.Sinks.{on_err, stopped_after, stopped_first}
 use Rattle.vt_cells.proofs.buffer.Buffer.add.Goals as goal

@@ -1,5 +1,5 @@
 use Rattle.std.proofs.Common.{◌+◌, ◌-◌, ◌∙◌, ap, length, arith}
-use Rattle.vt_cells.proofs.Buffers.{pushed}
+use Rattle.vt_cells.proofs.Sinks.{pushed}
 use Rattle.vt_cells.proofs.buffer.Buffer.push.Goals as goal
 
 pub invariant_of-self : goal.invariant_of-self

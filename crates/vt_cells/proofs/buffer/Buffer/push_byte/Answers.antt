@@ -1,5 +1,5 @@
 use Rattle.std.proofs.Common.{ap, arith, length}
-use Rattle.vt_cells.proofs.Buffers.{byte_pushed}
+use Rattle.vt_cells.proofs.Sinks.{byte_pushed}
 use Rattle.vt_cells.proofs.buffer.Buffer.push_byte.Goals as goal
 
 pub invariant_of-self : goal.invariant_of-self

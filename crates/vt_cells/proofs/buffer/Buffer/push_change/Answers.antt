@@ -1,8 +1,8 @@
 use Rattle.std.proofs.Common.{◌∷◌, ◌++◌, [], List, ℕ, ◌∙◌, ap, subst}
-use Rattle.vt_cells.specs.ChangeInternals.{AppendsNumbers, numbers_after, style_part}
+use Rattle.vt_cells.specs.Internals.{AppendsNumbers, numbers_after, style_part}
 use Rattle.vt_cells.specs.Op.{change_numbers}
-use Rattle.vt_cells.proofs.Changes.{background_part, foreground_part}
-use Rattle.vt_cells.proofs.ChangeTexts.{appends_then, change_parts, sequence_ended, sequence_without}
+use Rattle.vt_cells.proofs.Attributes.{background_part, foreground_part}
+use Rattle.vt_cells.proofs.Texts.{appends_then, change_parts, sequence_ended, sequence_without}
 use Rattle.vt_cells.proofs.buffer.Buffer.push_change.Goals as goal
 use Rattle.vt_cells.proofs.buffer.Buffer.push_change.Goals.{then-lead-eq91, else-lead-eq91}
 

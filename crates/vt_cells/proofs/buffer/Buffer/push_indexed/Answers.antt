@@ -1,5 +1,5 @@
 use Rattle.std.proofs.Common.{[], ◌∷◌, arith}
-use Rattle.vt_cells.proofs.ChangeTexts.{appends_one, appends_then}
+use Rattle.vt_cells.proofs.Texts.{appends_one, appends_then}
 use Rattle.vt_cells.proofs.buffer.Buffer.push_indexed.Goals as goal
 
 pub returns : goal.returns

@@ -1,6 +1,6 @@
 use Rattle.std.proofs.Common.{ℕ, ◌+◌, ◌-◌, ◌∙◌, ap, length, take, subst, arith}
-use Rattle.vt_cells.specs.BufferInternals.{IsBuffer}
-use Rattle.vt_cells.proofs.Buffers.{pushed}
+use Rattle.vt_cells.specs.Internals.{IsBuffer}
+use Rattle.vt_cells.proofs.Sinks.{pushed}
 use borrow.Rule.Slice.PartMut.{put_mid}
 use Rattle.vt_cells.proofs.buffer.Buffer.push_one.Goals as goal
 

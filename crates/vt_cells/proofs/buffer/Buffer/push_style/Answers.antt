@@ -1,6 +1,6 @@
-use Rattle.vt_cells.proofs.Changes.{intensity_part}
-use Rattle.vt_cells.proofs.ChangeTexts.{appends_then}
-use Rattle.vt_cells.specs.ChangeInternals.{switches_part}
+use Rattle.vt_cells.proofs.Attributes.{intensity_part}
+use Rattle.vt_cells.proofs.Texts.{appends_then}
+use Rattle.vt_cells.specs.Internals.{switches_part}
 use Rattle.vt_cells.proofs.buffer.Buffer.push_style.Goals as goal
 
 pub returns : goal.returns

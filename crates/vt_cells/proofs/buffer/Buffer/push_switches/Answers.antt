@@ -1,4 +1,4 @@
-use Rattle.vt_cells.proofs.ChangeTexts.{unchanged_switches}
+use Rattle.vt_cells.proofs.Texts.{unchanged_switches}
 use Rattle.std.proofs.Common.{◌∙◌, sym}
 use Rattle.vt_cells.proofs.buffer.Buffer.push_switches.Goals as goal
 

@@ -1,7 +1,6 @@
 use Rattle.std.proofs.Common.{arith, refl, rules, ◌∙◌}
 use Rattle.std.proofs.lemmas.Nat.{le_bytes_8}
-use Rattle.vt_cells.proofs.SameCells.{front_stored}
-use Rattle.vt_cells.proofs.Words.{first_eight}
+use Rattle.vt_cells.proofs.Cells.{front_stored, first_eight}
 use Rattle.vt_cells.proofs.cell.Cell.front_word.Goals as goal
 
 pub returns : goal.returns

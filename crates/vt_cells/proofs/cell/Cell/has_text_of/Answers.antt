@@ -1,6 +1,5 @@
 use Rattle.std.proofs.Common.{ap, arith}
-use Rattle.vt_cells.proofs.SameCells.{head_stored}
-use Rattle.vt_cells.proofs.Words.{other_words, same_words}
+use Rattle.vt_cells.proofs.Cells.{head_stored, other_words, same_words}
 use Rattle.vt_cells.proofs.cell.Cell.has_text_of.Goals as goal
 
 pub returns-then-front_word : goal.returns-then-front_word

@@ -1,6 +1,6 @@
 use Rattle.std.proofs.Common.{ap, sym, ◌∙◌}
-use Rattle.vt_cells.proofs.SameCells.{same_cell-headed, same_cell-other_head}
-use Rattle.vt_cells.proofs.Shapes.{head_of-same}
+use Rattle.vt_cells.proofs.Cells.{same_cell-headed, same_cell-other_head}
+use Rattle.vt_cells.proofs.Packing.{head_of-same}
 use Rattle.vt_cells.proofs.cell.Cell.is_same.Goals as goal
 
 pub returns-then-not-has_head_of : goal.returns-then-not-has_head_of

@@ -1,4 +1,4 @@
-use Rattle.vt_cells.proofs.Words.{cells_even}
+use Rattle.vt_cells.proofs.Cells.{cells_even}
 use Rattle.vt_cells.proofs.cell.Cell.odd_bits.Goals as goal
 
 pub returns : goal.returns

@@ -1,5 +1,5 @@
 use Rattle.std.proofs.Common.{◌∙◌}
-use Rattle.vt_cells.proofs.SameCells.{same_cell-eq, cell_same, same_cell_of}
+use Rattle.vt_cells.proofs.Cells.{same_cell-eq, cell_same, same_cell_of}
 use Rattle.vt_cells.proofs.cell.CellPartialEq.eq.Goals as goal
 
 pub returns-clause-value : goal.returns-clause-value

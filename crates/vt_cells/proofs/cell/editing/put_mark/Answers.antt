@@ -1,6 +1,6 @@
 use Rattle.std.proofs.Common.{◌≡◌, ap, arith, sym, ◌∙◌}
 use Rattle.vt_cells.specs.Cell.{is_blank, is_right_half}
-use Rattle.vt_cells.proofs.KeptCells.{IsKept-mark}
+use Rattle.vt_cells.proofs.Cells.{IsKept-mark}
 use Rattle.vt_cells.proofs.cell.editing.put_mark.Goals as goal
 
 pub invariant_of-cell : goal.invariant_of-cell

@@ -1,4 +1,4 @@
-use Rattle.vt_cells.proofs.Fronts.{IsShort-first}
+use Rattle.vt_cells.proofs.Cells.{IsShort-first}
 use Rattle.vt_cells.proofs.cell.editing.set_glyph.Goals as goal
 
 pub overwrite-requires : goal.overwrite-requires

@@ -1,8 +1,7 @@
 use Rattle.std.proofs.Common.{◌∙◌, ap, arith, false, length, sym}
 use Rattle.std.proofs.Math.Utf8.{low_scalar}
-use Rattle.vt_cells.proofs.KeptCells.{IsKept-first, cell_of-first, zeros_at}
-use Rattle.vt_cells.proofs.Encoding.{one_byte}
-use Rattle.vt_cells.proofs.Widths.{columns_of-ascii}
+use Rattle.vt_cells.proofs.Cells.{IsKept-first, cell_of-first, zeros_at}
+use Rattle.vt_cells.proofs.Glyphs.{one_byte, columns_of-ascii}
 use Rattle.vt_cells.proofs.cell.making.ascii.Goals as goal
 
 pub invariant_of-result : goal.invariant_of-result

@@ -1,4 +1,4 @@
-use Rattle.vt_cells.proofs.KeptCells.{IsStored-blank}
+use Rattle.vt_cells.proofs.Cells.{IsStored-blank}
 use Rattle.vt_cells.proofs.cell.making.blank.Goals as goal
 
 pub invariant_of-result : goal.invariant_of-result

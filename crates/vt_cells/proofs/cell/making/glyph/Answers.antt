@@ -1,5 +1,5 @@
 use Rattle.std.proofs.Common.{◌∙◌, zero-add}
-use Rattle.vt_cells.proofs.KeptCells.{IsKept-first, cell_of-first, zeros_at}
+use Rattle.vt_cells.proofs.Cells.{IsKept-first, cell_of-first, zeros_at}
 use Rattle.vt_cells.proofs.cell.making.glyph.Goals as goal
 
 pub invariant_of-result : goal.invariant_of-result

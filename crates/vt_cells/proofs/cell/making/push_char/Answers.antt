@@ -1,5 +1,5 @@
 use Rattle.std.proofs.Common.{arith, ◌∙◌, refl}
-use Rattle.vt_cells.proofs.Encoding.{two_bytes, three_bytes, four_bytes, add_two, add_three, add_four}
+use Rattle.vt_cells.proofs.Glyphs.{two_bytes, three_bytes, four_bytes, add_two, add_three, add_four}
 use Rattle.vt_cells.proofs.cell.making.push_char.Goals as goal
 
 pub returns-then-code-lt2048-clause-text : goal.returns-then-code-lt2048-clause-text

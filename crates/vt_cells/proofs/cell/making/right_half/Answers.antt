@@ -1,4 +1,4 @@
-use Rattle.vt_cells.proofs.KeptCells.{IsStored-half}
+use Rattle.vt_cells.proofs.Cells.{IsStored-half}
 use Rattle.vt_cells.proofs.cell.making.right_half.Goals as goal
 
 pub invariant_of-result : goal.invariant_of-result

@@ -1,5 +1,5 @@
 use Rattle.std.proofs.Common.{arith, eqb-true, refl}
-use Rattle.vt_cells.proofs.Fronts.{head_of_short, one_more_short, short_of_head}
+use Rattle.vt_cells.proofs.Cells.{head_of_short, one_more_short, short_of_head}
 use Rattle.vt_cells.proofs.cell.short.are_short.Goals as goal
 
 pub loop-cell-init : goal.loop-cell-init

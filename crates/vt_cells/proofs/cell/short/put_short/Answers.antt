@@ -1,6 +1,6 @@
 use Rattle.std.proofs.Common.{List, ℕ, ◌∙◌, ap, sym, subst}
-use Rattle.vt_cells.specs.CellInternals.{IsStored, cell_of_parts}
-use Rattle.vt_cells.proofs.Fronts.{front_put}
+use Rattle.vt_cells.specs.Internals.{IsStored, cell_of_parts}
+use Rattle.vt_cells.proofs.Cells.{front_put}
 use Rattle.vt_cells.proofs.cell.short.put_short.Goals as goal
 
 pub invariant_of-cell : goal.invariant_of-cell

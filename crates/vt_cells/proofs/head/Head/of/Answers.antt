@@ -1,4 +1,4 @@
-use Rattle.vt_cells.proofs.Shapes.{head_made}
+use Rattle.vt_cells.proofs.Packing.{head_made}
 use Rattle.vt_cells.proofs.head.Head.of.Goals as goal
 
 pub returns : goal.returns

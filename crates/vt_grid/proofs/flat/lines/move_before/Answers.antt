@@ -1,7 +1,7 @@
 use Rattle.std.proofs.Common.{◌≡◌, ◌-◌, ◌∙◌, ℕ, length, take, drop, sym, ap, subst, arith}
 use Rattle.std.specs.List.{CopiedTo}
 use Rattle.vt_grid.specs.Flat.{line_at}
-use Rattle.vt_grid.proofs.Windows.{window-before}
+use Rattle.vt_grid.proofs.Bounds.{window-before}
 use Rattle.vt_grid.proofs.flat.lines.move_before.Goals as goal
 
 pub returns-clause-lines : goal.returns-clause-lines

@@ -1,7 +1,6 @@
 use Rattle.std.proofs.Common.{◌∙◌, ap, sym, subst, arith, rules}
 use Rattle.vt_grid.specs.Page.{Page, IsPage, row_at}
-use Rattle.vt_grid.proofs.Prints.{column_wrapped_page, width_wrapped_page}
-use Rattle.vt_grid.proofs.Marks.{mark_place}
+use Rattle.vt_grid.proofs.Printing.{column_wrapped_page, width_wrapped_page, mark_place}
 use Rattle.vt_grid.proofs.Carries.{carried_of, carried_is, put_back_parts}
 use Rattle.vt_grid.proofs.grid.Grid.carry.Goals as goal
 

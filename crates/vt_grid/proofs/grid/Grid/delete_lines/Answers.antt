@@ -3,7 +3,7 @@ use Rattle.vt_grid.specs.Internals.{IsSized, page_of}
 use Rattle.vt_grid.specs.Page.{rows_up, up_source}
 use Rattle.vt_grid.specs.PageRows.{PageRowsValue}
 use Rattle.vt_grid.proofs.Pages.{length-moved_rows, page_rows_up}
-use Rattle.vt_grid.proofs.Sized.{sized}
+use Rattle.vt_grid.proofs.Carries.{sized}
 use Rattle.vt_grid.proofs.grid.Grid.delete_lines.Goals as goal
 
 pub invariant_of-self : goal.invariant_of-self

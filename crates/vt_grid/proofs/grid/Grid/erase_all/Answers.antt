@@ -4,8 +4,8 @@ use Rattle.std.proofs.lemmas.List.{length-replicate}
 use Rattle.vt_rows.specs.Row.{blank_row}
 use Rattle.vt_grid.specs.Erasing.{erased_page}
 use Rattle.vt_grid.specs.PageRows.{PageRowsValue}
-use Rattle.vt_grid.proofs.Blanking.{page_erased_page}
-use Rattle.vt_grid.proofs.Sized.{sized}
+use Rattle.vt_grid.proofs.Shifting.{page_erased_page}
+use Rattle.vt_grid.proofs.Carries.{sized}
 use Rattle.vt_grid.proofs.grid.Grid.erase_all.Goals as goal
 
 pub invariant_of-self : goal.invariant_of-self

@@ -1,7 +1,7 @@
 use Rattle.std.proofs.Common.{◌-◌, sym, subst, arith}
 use Rattle.vt_grid.specs.Internals.{IsSized, page_of}
 use Rattle.vt_grid.specs.PageRows.{PageRowsValue}
-use Rattle.vt_grid.proofs.Sized.{sized_erased_columns}
+use Rattle.vt_grid.proofs.Carries.{sized_erased_columns}
 use Rattle.vt_grid.proofs.grid.Grid.erase_cells.Goals as goal
 
 pub invariant_of-self : goal.invariant_of-self

@@ -4,8 +4,8 @@ use Rattle.std.proofs.lemmas.List.{length-set}
 use Rattle.vt_rows.specs.Row.{blank_row}
 use Rattle.vt_grid.specs.Erasing.{erased_row}
 use Rattle.vt_grid.specs.PageRows.{PageRowsValue, with_page_row}
-use Rattle.vt_grid.proofs.Blanking.{page_erased_row}
-use Rattle.vt_grid.proofs.Sized.{sized}
+use Rattle.vt_grid.proofs.Shifting.{page_erased_row}
+use Rattle.vt_grid.proofs.Carries.{sized}
 use Rattle.vt_grid.proofs.grid.Grid.erase_row.Goals as goal
 
 pub invariant_of-self : goal.invariant_of-self

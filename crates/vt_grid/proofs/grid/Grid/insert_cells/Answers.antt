@@ -6,7 +6,7 @@ use Rattle.vt_grid.specs.Page.{cursor_row}
 use Rattle.vt_grid.specs.Shifts.{chars_inserted}
 use Rattle.vt_grid.specs.PageRows.{PageRowsValue}
 use Rattle.vt_grid.proofs.Shifting.{page_chars_inserted}
-use Rattle.vt_grid.proofs.Sized.{sized}
+use Rattle.vt_grid.proofs.Carries.{sized}
 use Rattle.vt_grid.proofs.grid.Grid.insert_cells.Goals as goal
 
 pub invariant_of-self : goal.invariant_of-self

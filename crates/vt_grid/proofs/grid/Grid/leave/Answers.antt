@@ -2,7 +2,7 @@ use Rattle.std.proofs.Common.{sym, subst}
 use Rattle.vt_cells.specs.declared.pos.Pos.{Pos}
 use Rattle.vt_grid.specs.Internals.{IsSized, page_of}
 use Rattle.vt_grid.specs.PageRows.{PageRowsValue}
-use Rattle.vt_grid.proofs.Sized.{sized_left, flagged_page}
+use Rattle.vt_grid.proofs.Carries.{sized_left, flagged_page}
 use Rattle.vt_grid.proofs.grid.Grid.leave.Goals as goal
 
 pub invariant_of-self : goal.invariant_of-self

@@ -3,7 +3,7 @@ use Rattle.std.proofs.Common.{eq-eqb}
 use Rattle.vt_cells.specs.Glyph.{is_selector}
 use Rattle.vt_grid.specs.Internals.{IsMarkPlace}
 use Rattle.vt_grid.specs.Page.{cursor_row}
-use Rattle.vt_grid.proofs.Marks.{mark_place, marked_selected}
+use Rattle.vt_grid.proofs.Printing.{mark_place, marked_selected}
 use Rattle.vt_grid.proofs.Carries.{stays_before}
 use Rattle.vt_grid.proofs.grid.Grid.mark_cell.Goals as goal
 

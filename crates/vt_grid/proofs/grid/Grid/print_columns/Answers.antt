@@ -3,8 +3,7 @@ use Rattle.std.specs.Prelude.{IsErr, OnOk}
 use Rattle.vt_rows.specs.Row.{RowValue}
 use Rattle.vt_grid.specs.Page.{Page}
 use Rattle.vt_grid.specs.Scrollback.{Sends, TakesMemory}
-use Rattle.vt_grid.proofs.Dispatch.{no_columns, printed_mark}
-use Rattle.vt_grid.proofs.Outgoing.{out_mark}
+use Rattle.vt_grid.proofs.Printing.{no_columns, printed_mark, out_mark}
 use Rattle.vt_grid.proofs.grid.Grid.print_columns.Goals as goal
 
 pub print_mark-requires : goal.print_mark-requires

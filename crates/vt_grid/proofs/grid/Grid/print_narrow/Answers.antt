@@ -1,5 +1,5 @@
 use Rattle.std.proofs.Common.{arith}
-use Rattle.vt_grid.proofs.Prints.{has_room_made, width_room_made}
+use Rattle.vt_grid.proofs.Printing.{has_room_made, width_room_made}
 use Rattle.vt_grid.proofs.grid.Grid.print_narrow.Goals as goal
 
 pub put_narrow-requires-clause-room : goal.put_narrow-requires-clause-room

@@ -1,6 +1,6 @@
 use Rattle.std.proofs.Common.{◌∙◌, ap, arith, rules}
 use Rattle.vt_grid.specs.Page.{Page}
-use Rattle.vt_grid.proofs.Prints.{has_room_made, width_room_made}
+use Rattle.vt_grid.proofs.Printing.{has_room_made, width_room_made}
 use Rattle.vt_grid.proofs.grid.Grid.print_wide.Goals as goal
 
 pub put_wide-requires-clause-room : goal.put_wide-requires-clause-room

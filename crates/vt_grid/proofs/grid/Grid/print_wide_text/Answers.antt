@@ -1,5 +1,5 @@
 use Rattle.std.proofs.Common.{◌∙◌}
-use Rattle.vt_grid.proofs.WideTexts.{wide_text_printed}
+use Rattle.vt_grid.proofs.Texts.{wide_text_printed}
 use Rattle.vt_grid.proofs.grid.Grid.print_wide_text.Goals as goal
 
 pub returns : goal.returns

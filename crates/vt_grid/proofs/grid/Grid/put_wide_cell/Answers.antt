@@ -3,7 +3,7 @@ use Rattle.vt_cells.specs.declared.pos.Pos.{Pos}
 use Rattle.vt_cells.specs.Cell.{text_of, attrs_of}
 use Rattle.vt_grid.specs.Internals.{IsSized, page_of}
 use Rattle.vt_grid.specs.PageRows.{PageRowsValue}
-use Rattle.vt_grid.proofs.Sized.{sized_glyph_put}
+use Rattle.vt_grid.proofs.Carries.{sized_glyph_put}
 use Rattle.vt_grid.proofs.grid.Grid.put_wide_cell.Goals as goal
 
 pub invariant_of-self : goal.invariant_of-self

@@ -2,7 +2,7 @@ use Rattle.std.proofs.Common.{◌+◌, ◌*◌, length, sym, subst}
 use Rattle.vt_cells.specs.declared.pos.Pos.{Pos}
 use Rattle.vt_grid.specs.Internals.{IsSized, page_of}
 use Rattle.vt_grid.specs.PageRows.{PageRowsValue}
-use Rattle.vt_grid.proofs.WideTexts.{sized_wide_text_put}
+use Rattle.vt_grid.proofs.Texts.{sized_wide_text_put}
 use Rattle.vt_grid.proofs.grid.Grid.put_wide_text.Goals as goal
 
 pub invariant_of-self : goal.invariant_of-self

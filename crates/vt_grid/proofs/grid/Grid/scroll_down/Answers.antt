@@ -3,7 +3,7 @@ use Rattle.vt_grid.specs.Internals.{IsSized, page_of}
 use Rattle.vt_grid.specs.Shifts.{scrolled_down}
 use Rattle.vt_grid.specs.PageRows.{PageRowsValue}
 use Rattle.vt_grid.proofs.Shifting.{length-rows_down, page_scrolled_down}
-use Rattle.vt_grid.proofs.Sized.{sized}
+use Rattle.vt_grid.proofs.Carries.{sized}
 use Rattle.vt_grid.proofs.grid.Grid.scroll_down.Goals as goal
 
 pub invariant_of-self : goal.invariant_of-self

@@ -3,7 +3,7 @@ use Rattle.vt_cells.specs.declared.pos.Pos.{Pos}
 use Rattle.vt_grid.specs.Internals.{IsSized, IsSelected, page_of}
 use Rattle.vt_grid.specs.Page.{Page}
 use Rattle.vt_grid.specs.PageRows.{PageRowsValue}
-use Rattle.vt_grid.proofs.Sized.{sized_widened}
+use Rattle.vt_grid.proofs.Carries.{sized_widened}
 use Rattle.vt_grid.proofs.grid.Grid.widen.Goals as goal
 
 pub invariant_of-self : goal.invariant_of-self

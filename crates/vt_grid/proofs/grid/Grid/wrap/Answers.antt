@@ -1,5 +1,5 @@
 use Rattle.vt_grid.specs.Internals.{page_of}
-use Rattle.vt_grid.proofs.Sized.{wrap_parts, left_inside}
+use Rattle.vt_grid.proofs.Carries.{wrap_parts, left_inside}
 use Rattle.vt_grid.proofs.grid.Grid.wrap.Goals as goal
 
 pub leave-requires-clause-page : goal.leave-requires-clause-page

@@ -1,6 +1,6 @@
 use Rattle.std.proofs.Common.{◌≡◌, ◌∙◌, true, ap, sym, subst}
 use Rattle.vt_cells.specs.Cell.{CellValue, IsCell, cell_with_mark, cell_with_attrs, cell_made_wide}
-use Rattle.vt_grid.proofs.Marks.{selected_cell, lifted_cell}
+use Rattle.vt_grid.proofs.Printing.{selected_cell, lifted_cell}
 use Rattle.vt_grid.proofs.grid.printing.widened.Goals as goal
 
 pub set_wide-requires : goal.set_wide-requires

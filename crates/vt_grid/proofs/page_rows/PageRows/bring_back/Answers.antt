@@ -10,7 +10,7 @@ use Rattle.vt_grid.specs.Internals.{given_back}
 use Rattle.vt_grid.specs.PageRows.{PageRowsValue}
 use Rattle.vt_grid.proofs.Flats.{flat_turned, rows_turned}
 use Rattle.vt_grid.proofs.Heights.{brought_back, turned_blank}
-use Rattle.vt_grid.proofs.Turns.{counted_turned}
+use Rattle.vt_grid.proofs.Scrolls.{counted_turned}
 use Rattle.vt_grid.proofs.page_rows.PageRows.bring_back.Goals as goal
 
 pub invariant_of-self : goal.invariant_of-self

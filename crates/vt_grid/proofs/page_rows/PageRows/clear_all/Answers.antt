@@ -1,7 +1,7 @@
 use Rattle.std.proofs.Common.{◌≡◌, ◌++◌, ℕ, List, length, drop, replicate, ◌∙◌, ap, arith}
 use Rattle.std.proofs.lemmas.List.{append-nil, drop_all}
 use Rattle.vt_rows.specs.Row.{RowValue, blank_row}
-use Rattle.vt_grid.proofs.Turns.{blank_before}
+use Rattle.vt_grid.proofs.Scrolls.{blank_before}
 use Rattle.vt_grid.proofs.page_rows.PageRows.clear_all.Goals as goal
 
 pub returns : goal.returns

@@ -1,6 +1,6 @@
 use Rattle.std.proofs.Common.{◌+◌, ◌-◌, ◌++◌, length, take, replicate, ◌∙◌, arith}
 use Rattle.vt_rows.specs.Row.{blank_row}
-use Rattle.vt_grid.proofs.Turns.{blank_from}
+use Rattle.vt_grid.proofs.Scrolls.{blank_from}
 use Rattle.vt_grid.proofs.page_rows.PageRows.clear_below.Goals as goal
 
 pub returns : goal.returns

@@ -1,10 +1,10 @@
 use Rattle.std.proofs.Common.{◌≡◌, ◌<◌, ◌∙◌, List, length, take, sym, ap, arith}
 use Rattle.vt_cells.specs.Attrs.{Attrs, default_attrs, same_attrs}
 use Rattle.vt_cells.specs.Cell.{CellValue}
-use Rattle.vt_cells.proofs.Same.{attrs_of-same}
+use Rattle.vt_cells.proofs.Attributes.{attrs_of-same}
 use Rattle.vt_rows.specs.Cells.{at}
 use Rattle.vt_rows.specs.Row.{blank_row}
-use Rattle.vt_rows.proofs.Columns.{at-blanks}
+use Rattle.vt_rows.proofs.Edits.{at-blanks}
 use Rattle.vt_grid.specs.Flat.{rows_of}
 use Rattle.vt_grid.specs.PageRows.{PageRowsValue, with_page_row}
 use Rattle.vt_grid.proofs.Bounds.{flat_blanked}

@@ -1,5 +1,5 @@
 use Rattle.std.proofs.Common.{rules, ◌+◌, ◌*◌, ◌≡◌, length, arith}
-use Rattle.vt_rows.specs.WideTexts.{put_wide_text}
+use Rattle.vt_rows.specs.Texts.{put_wide_text}
 use Rattle.vt_grid.specs.Flat.{used_columns}
 use Rattle.vt_grid.specs.PageRows.{page_row, with_row_cells}
 use Rattle.vt_grid.proofs.Bounds.{put_wide_text_used, row_replaced}

@@ -4,7 +4,7 @@ use Rattle.vt_grid.specs.Page.{moved_rows}
 use Rattle.vt_grid.specs.Shifts.{down_source}
 use Rattle.vt_grid.specs.PageRows.{PageRowsValue, page_row, with_page_row}
 use Rattle.vt_grid.proofs.Flats.{flat_turned}
-use Rattle.vt_grid.proofs.Turns.{counted_turned, turned_down}
+use Rattle.vt_grid.proofs.Scrolls.{counted_turned, turned_down}
 use Rattle.vt_grid.proofs.page_rows.PageRows.scroll_down.Goals as goal
 
 pub invariant_of-self : goal.invariant_of-self

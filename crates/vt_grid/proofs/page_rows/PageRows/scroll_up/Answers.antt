@@ -3,7 +3,7 @@ use Rattle.vt_grid.specs.Flat.{rows_of}
 use Rattle.vt_grid.specs.Page.{rows_up}
 use Rattle.vt_grid.specs.PageRows.{PageRowsValue}
 use Rattle.vt_grid.proofs.Flats.{flat_turned}
-use Rattle.vt_grid.proofs.Turns.{counted_turned, turned_up}
+use Rattle.vt_grid.proofs.Scrolls.{counted_turned, turned_up}
 use Rattle.vt_grid.proofs.page_rows.PageRows.scroll_up.Goals as goal
 
 pub invariant_of-self : goal.invariant_of-self

@@ -5,7 +5,7 @@ use Rattle.std.proofs.lemmas.List.{length-set, get_or_default}
 use Rattle.vt_cells.specs.Attrs.{default_attrs}
 use Rattle.vt_rows.specs.Row.{RowValue, blank_row, resized_row}
 use Rattle.vt_grid.specs.PageRows.{PageRowsValue}
-use Rattle.vt_grid.proofs.Moving.{MovedInto, moved_none, moved_more, moved_all, still_blank}
+use Rattle.vt_grid.proofs.Scrolls.{MovedInto, moved_none, moved_more, moved_all, still_blank}
 use Rattle.vt_grid.proofs.page_rows.PageRows.take_rows.Goals as goal
 
 pub loop-k-init : goal.loop-k-init

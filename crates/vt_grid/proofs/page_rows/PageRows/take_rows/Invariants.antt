@@ -1,5 +1,5 @@
 use Rattle.std.proofs.Common.{◌≡◌, ◌+◌, ◌-◌, ◌≤◌, length, min}
-use Rattle.vt_grid.proofs.Moving.{MovedInto}
+use Rattle.vt_grid.proofs.Scrolls.{MovedInto}
 use Rattle.vt_grid.proofs.page_rows.PageRows.take_rows.Given as goal
 
 abbrev pub invariant-loop-k : goal.invariant-loop-k

@@ -3,7 +3,7 @@ use Rattle.std.proofs.lemmas.List.{length-take}
 use Rattle.std.proofs.lemmas.List.Elements.{All-take}
 use Rattle.vt_rows.specs.Row.{IsRow}
 use Rattle.vt_grid.specs.Scrollback.{Scrollback, IsScrollback, greatest, scrollback_after_push}
-use Rattle.vt_grid.proofs.Scrolling.{IsScrollback-pushed, added_is}
+use Rattle.vt_grid.proofs.ScrollbackRows.{IsScrollback-pushed, added_is}
 use Rattle.vt_grid.proofs.scrollback.Scrollback.add.Goals as goal
 
 pub invariant_of-self-2 : goal.invariant_of-self-2

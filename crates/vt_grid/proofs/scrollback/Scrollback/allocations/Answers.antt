@@ -1,6 +1,6 @@
 use Rattle.std.proofs.Common.{◌≡◌, ◌+◌, ◌-◌, ◌≤◌, length, subst, ◌∙◌, arith}
 use Rattle.vt_grid.specs.Scrollback.{Scrollback, kept_after, narrow_rows}
-use Rattle.vt_grid.specs.Spare.{in_view}
+use Rattle.vt_grid.specs.Internals.{in_view}
 use Rattle.vt_grid.proofs.Growing.{none_in_view, allocations_enough}
 use Rattle.vt_grid.proofs.scrollback.Scrollback.allocations.Goals as goal
 

@@ -7,9 +7,9 @@ use Rattle.vt_rows.specs.Row.{RowValue, IsRow, trimmed_row}
 use Rattle.vt_grid.specs.Scrollback.{Scrollback, IsScrollback, Sends, before_last}
 use Rattle.vt_grid.specs.Scrollback.{greatest, kept_after, last_of, narrow_rows}
 use Rattle.std.specs.List.{FoldsTo}
-use Rattle.vt_grid.specs.Spare.{in_view}
-use Rattle.vt_grid.proofs.Stacking.{All-copied}
-use Rattle.vt_grid.proofs.Scrolling.{All-kept, IsScrollback-pushed, kept_by_steps, pushed_is, spare_made, reported_by_steps}
+use Rattle.vt_grid.specs.Internals.{in_view}
+use Rattle.vt_grid.proofs.ScrollbackRows.{All-copied, All-kept, IsScrollback-pushed, kept_by_steps, pushed_is}
+use Rattle.vt_grid.proofs.ScrollbackRows.{spare_made, reported_by_steps}
 use Rattle.vt_grid.proofs.scrollback.Scrollback.keep.Goals as goal
 
 pub push_rows-requires-clause-room : goal.push_rows-requires-clause-room

@@ -3,7 +3,7 @@ use Rattle.std.proofs.lemmas.List.{length-take}
 use Rattle.std.specs.List.{FoldsTo}
 use Rattle.vt_rows.specs.Row.{RowValue}
 use Rattle.vt_grid.specs.Scrollback.{Scrollback, Sends, greatest}
-use Rattle.vt_grid.proofs.Scrolling.{passed_is, passed_reports}
+use Rattle.vt_grid.proofs.ScrollbackRows.{passed_is, passed_reports}
 use Rattle.vt_grid.proofs.scrollback.Scrollback.pass.Goals as goal
 
 pub returns : goal.returns

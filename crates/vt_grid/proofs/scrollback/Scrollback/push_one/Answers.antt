@@ -3,7 +3,7 @@ use Rattle.std.proofs.lemmas.List.{length-take}
 use Rattle.std.proofs.lemmas.Result.{on_ok_weaker}
 use Rattle.std.specs.List.{FoldsTo}
 use Rattle.vt_grid.specs.Scrollback.{Scrollback}
-use Rattle.vt_grid.proofs.Scrolling.{added_reports}
+use Rattle.vt_grid.proofs.ScrollbackRows.{added_reports}
 use Rattle.vt_grid.proofs.scrollback.Scrollback.push_one.Goals as goal
 
 pub returns-clause-pushed : goal.returns-clause-pushed

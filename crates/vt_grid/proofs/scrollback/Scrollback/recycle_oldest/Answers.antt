@@ -4,7 +4,7 @@ use Rattle.std.proofs.lemmas.List.{length-take}
 use Rattle.std.proofs.lemmas.List.Elements.{All-take}
 use Rattle.vt_rows.specs.Row.{RowValue, IsRow}
 use Rattle.vt_grid.specs.Scrollback.{Scrollback, IsScrollback, Sends, greatest}
-use Rattle.vt_grid.proofs.Scrolling.{IsScrollback-pushed, turned_is, turned_reports}
+use Rattle.vt_grid.proofs.ScrollbackRows.{IsScrollback-pushed, turned_is, turned_reports}
 use Rattle.vt_grid.proofs.scrollback.Scrollback.recycle_oldest.Goals as goal
 
 pub invariant_of-self-2 : goal.invariant_of-self-2

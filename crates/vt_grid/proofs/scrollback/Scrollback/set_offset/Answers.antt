@@ -1,6 +1,6 @@
 use Rattle.std.proofs.Common.{◌∙◌, ap, sym, subst, arith}
 use Rattle.vt_grid.specs.Scrollback.{Scrollback, IsScrollback, with_view}
-use Rattle.vt_grid.proofs.Scrolling.{IsScrollback-with_view, with_view_is}
+use Rattle.vt_grid.proofs.ScrollbackRows.{IsScrollback-with_view, with_view_is}
 use Rattle.vt_grid.proofs.scrollback.Scrollback.set_offset.Goals as goal
 
 pub invariant_of-self : goal.invariant_of-self

@@ -2,7 +2,7 @@ use Rattle.std.proofs.Common.{ℕ, List, subst, sym}
 use Rattle.std.specs.Prelude.{string_bytes}
 use Rattle.vt_screen.specs.Screen.{ScreenValue}
 use Rattle.vt_screen.specs.Shown.{form_of}
-use Rattle.vt_mirror.specs.Sharing.{IsRedraw}
+use Rattle.vt_mirror.specs.Kept.{IsRedraw}
 use Rattle.vt_mirror.proofs.Sharing.{redraw_of, sharing_redrawn}
 use Rattle.vt_mirror.proofs.mirror.Mirror.full.Goals as goal
 

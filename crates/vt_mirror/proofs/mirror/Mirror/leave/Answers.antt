@@ -1,5 +1,5 @@
 use Rattle.std.proofs.Common.{refl}
-use Rattle.vt_mirror.proofs.Noted.{noted_leave}
+use Rattle.vt_mirror.proofs.Bookkeeping.{noted_leave}
 use Rattle.vt_mirror.proofs.Sharing.{sharing_viewers}
 use Rattle.vt_mirror.proofs.mirror.Mirror.leave.Goals as goal
 

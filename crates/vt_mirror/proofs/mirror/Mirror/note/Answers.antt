@@ -1,7 +1,7 @@
 use Rattle.std.proofs.Common.{refl, subst, ◌≡◌}
 use Rattle.std.specs.Prelude.{IfSome}
 use Rattle.vt_screen.specs.Screen.{ScreenValue}
-use Rattle.vt_mirror.proofs.Noted.{noted_copy, noted_same}
+use Rattle.vt_mirror.proofs.Bookkeeping.{noted_copy, noted_same}
 use Rattle.vt_mirror.proofs.Sharing.{sharing_noted}
 use Rattle.vt_mirror.proofs.mirror.Mirror.note.Goals as goal
 

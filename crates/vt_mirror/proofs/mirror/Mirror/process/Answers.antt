@@ -4,7 +4,7 @@ use Rattle.vt_screen.specs.Screen.{IsScreen, ScreenValue}
 use Rattle.vt_mirror.specs.Calls.{MirrorProcesses}
 use Rattle.vt_mirror.specs.Mirror.{MirrorValue}
 use Rattle.vt_mirror.specs.Kept.{KeptValue}
-use Rattle.vt_mirror.proofs.Processing.{processed_size}
+use Rattle.vt_mirror.proofs.Bookkeeping.{processed_size}
 use Rattle.vt_mirror.proofs.Sharing.{sharing_changed}
 use Rattle.vt_mirror.proofs.mirror.Mirror.process.Goals as goal
 

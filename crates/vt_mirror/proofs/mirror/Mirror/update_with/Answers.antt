@@ -1,4 +1,4 @@
-use Rattle.vt_mirror.proofs.Updates.{portable_update}
+use Rattle.vt_mirror.proofs.Bookkeeping.{portable_update}
 use Rattle.vt_mirror.proofs.mirror.Mirror.update_with.Goals as goal
 
 pub returns-clause-portable : goal.returns-clause-portable

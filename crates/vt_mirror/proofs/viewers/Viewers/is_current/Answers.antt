@@ -3,7 +3,7 @@ use Rattle.std.specs.declared.option.Option.{Option}
 use Rattle.vt_mirror.specs.Kept.{KeptValue, copies_of, is_of_current, noted_at, screens_of}
 use Rattle.vt_mirror.specs.Viewers.{ViewersValue}
 use Rattle.vt_mirror.specs.declared.copies.Note.{Note}
-use Rattle.vt_mirror.proofs.Current.{no_current, seen_current}
+use Rattle.vt_mirror.proofs.Sharing.{no_current, seen_current}
 use Rattle.vt_mirror.proofs.Keeping.{found_current}
 use Rattle.vt_mirror.proofs.viewers.Viewers.is_current.Goals as goal
 

@@ -4,7 +4,7 @@ use Rattle.vt_mirror.specs.Kept.{AreKept, KeptValue, copies_of, current_in, scre
 use Rattle.vt_mirror.specs.Viewers.{Puts, ViewersValue, is_viewer}
 use Rattle.vt_mirror.specs.declared.copies.Note.{Note}
 use Rattle.vt_mirror.proofs.Bookkeeping.{if_refused, if_taken, on_err}
-use Rattle.vt_mirror.proofs.Current.{current_put, current_renewed}
+use Rattle.vt_mirror.proofs.Sharing.{current_put, current_renewed}
 use Rattle.vt_mirror.proofs.Keeping.{fewer_kept, kept_put, note_put, note_put_viewers, numbered_renewed, shared_renewed}
 use Rattle.vt_mirror.proofs.viewers.Viewers.note.Goals as goal
 

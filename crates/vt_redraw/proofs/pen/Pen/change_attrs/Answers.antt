@@ -1,5 +1,5 @@
 use Rattle.std.proofs.Common.{◌∙◌, ap, rules, sym, append-nil}
-use Rattle.vt_cells.proofs.Same.{attrs_of-same}
+use Rattle.vt_cells.proofs.Attributes.{attrs_of-same}
 use Rattle.vt_redraw.specs.Script.{pen_with}
 use Rattle.vt_redraw.proofs.Writing.{change_none}
 use Rattle.vt_redraw.proofs.pen.Pen.change_attrs.Goals as goal

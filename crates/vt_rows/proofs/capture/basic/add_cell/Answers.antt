@@ -1,7 +1,7 @@
 use Rattle.std.proofs.Common.{◌∙◌, refl, sym}
 use Rattle.std.proofs.lemmas.Result.{on_err_weaker}
 use Rattle.vt_cells.proofs.Sinks.{on_err}
-use Rattle.vt_rows.proofs.BasicTexts.{change_stopped, shown_stopped}
+use Rattle.vt_rows.proofs.RowTexts.{change_stopped, shown_stopped}
 use Rattle.vt_rows.proofs.capture.basic.add_cell.Goals as goal
 
 pub returns-in_err-add-clause-stopped : goal.returns-in_err-add-clause-stopped

@@ -1,10 +1,10 @@
 use Rattle.std.proofs.Common.{◌++◌, ◌∷◌, ◌∙◌, [], refl, List, ℕ, suc, drop, sym, ap, arith}
 use Rattle.std.proofs.Math.Seq.{drop-cons}
 use Rattle.vt_cells.proofs.Sinks.{on_err, some_among, stopped_among, stopped_first}
-use Rattle.vt_cells.specs.BufferInternals.{buffered_text}
+use Rattle.vt_cells.specs.Internals.{buffered_text}
 use Rattle.vt_rows.specs.Basic.{attrs_after, cells_text}
 use Rattle.vt_rows.specs.Internals.{cell_text}
-use Rattle.vt_rows.proofs.BasicTexts.{one_first}
+use Rattle.vt_rows.proofs.RowTexts.{one_first}
 use Rattle.vt_rows.proofs.capture.basic.write_cells.Goals as goal
 
 pub returns-in_err-add_cell-clause-stopped : goal.returns-in_err-add_cell-clause-stopped

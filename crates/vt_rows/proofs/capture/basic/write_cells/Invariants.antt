@@ -1,5 +1,5 @@
 use Rattle.std.proofs.Common.{◌≡◌, ◌≤◌, ◌++◌, drop, length}
-use Rattle.vt_cells.specs.BufferInternals.{buffered_text}
+use Rattle.vt_cells.specs.Internals.{buffered_text}
 use Rattle.vt_rows.specs.Basic.{attrs_after_all, cells_text}
 use Rattle.vt_rows.proofs.capture.basic.write_cells.Given as goal
 

@@ -1,5 +1,5 @@
 use Rattle.std.proofs.Common.{length, refl}
-use Rattle.vt_rows.proofs.Outside.{whole_are, whole_joined}
+use Rattle.vt_rows.proofs.Pieces.{whole_are, whole_joined}
 use Rattle.vt_rows.proofs.capture.plain.basic_formatted_to_plain_indexed.Goals as goal
 
 pub returns-clause-pieces : goal.returns-clause-pieces

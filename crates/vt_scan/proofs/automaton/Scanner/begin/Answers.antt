@@ -1,6 +1,6 @@
 -- Nothing is collected, in any kind of state.
 use Rattle.std.proofs.Common.{[], refl, rules}
-use Rattle.vt_scan.proofs.Standing.{stands_by, stands_plain, stands_in_command}
+use Rattle.vt_scan.proofs.Steps.{stands_by, stands_plain, stands_in_command}
 use Rattle.vt_scan.proofs.automaton.Scanner.begin.Goals as goal
 
 pub invariant_of-self : goal.invariant_of-self

@@ -3,8 +3,7 @@ use Rattle.std.proofs.Common.{◌≡◌, ◌≢◌, ◌∙◌, ap, refl, subst, 
 use Rattle.vt_scan.specs.Automaton.{State}
 use Rattle.vt_scan.specs.Scanner.{ScannerValue, StandsFor}
 use Rattle.vt_scan.specs.declared.table.Kind.TheVariants.{OscString}
-use Rattle.vt_scan.proofs.Collecting.{collect_intermediate, collect_parameter}
-use Rattle.vt_scan.proofs.Standing.{stands_in_command, stands_on}
+use Rattle.vt_scan.proofs.Steps.{collect_intermediate, collect_parameter, stands_in_command, stands_on}
 use Rattle.vt_scan.proofs.automaton.Scanner.collect.Goals as goal
 
 pub returns-clause-reads : goal.returns-clause-reads

@@ -2,7 +2,7 @@
 use Rattle.std.proofs.Common.{◌≡◌, ◌∙◌, ◌++◌, ap, arith, take, rules}
 use Rattle.vt_scan.specs.Scanner.{ScannerValue}
 use Rattle.vt_scan.proofs.Leading.{command_feeds, command_turn}
-use Rattle.vt_scan.proofs.Standing.{stands_in_command}
+use Rattle.vt_scan.proofs.Steps.{stands_in_command}
 use Rattle.vt_scan.proofs.automaton.Scanner.collect_text.Goals as goal
 
 pub invariant_of-self : goal.invariant_of-self

@@ -1,8 +1,7 @@
 -- A byte when no character is incomplete.
 use Rattle.std.proofs.Common.{◌∙◌, ◌≢◌, ap, sym, arith}
 use Rattle.vt_scan.specs.Scanner.{ScannerValue}
-use Rattle.vt_scan.proofs.Feeding.{fresh_character, fresh_control, fresh_escape, fresh_begun, fresh_broken}
-use Rattle.vt_scan.proofs.Standing.{stands_plain}
+use Rattle.vt_scan.proofs.Steps.{fresh_character, fresh_control, fresh_escape, fresh_begun, fresh_broken, stands_plain}
 use Rattle.vt_scan.proofs.automaton.Scanner.feed_fresh.Goals as goal
 
 pub returns-then-begin-clause-follows : goal.returns-then-begin-clause-follows

@@ -3,8 +3,7 @@ use Rattle.std.proofs.Common.{◌∙◌, ℕ, List, ap, subst}
 use Rattle.vt_scan.specs.Scanner.{ScannerValue, Follows}
 use Rattle.vt_scan.specs.Automaton.{step_in}
 use Rattle.vt_scan.specs.declared.table.Kind.TheVariants.{Ground}
-use Rattle.vt_scan.proofs.Feeding.{some_from, fed_further, fed_character, fed_broken}
-use Rattle.vt_scan.proofs.Standing.{stands_plain}
+use Rattle.vt_scan.proofs.Steps.{some_from, fed_further, fed_character, fed_broken, stands_plain}
 use Rattle.vt_scan.proofs.automaton.Scanner.feed_ground.Goals as goal
 
 pub returns-in-Further : goal.returns-in-Further

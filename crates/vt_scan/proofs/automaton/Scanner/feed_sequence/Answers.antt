@@ -5,7 +5,7 @@ use Rattle.vt_scan.specs.Table.{class_of, transition_of}
 use Rattle.vt_scan.specs.Internals.{Fits}
 use Rattle.vt_scan.specs.declared.table.Kind.{Kind}
 use Rattle.vt_scan.specs.declared.table.Transition.TheVariants.{End}
-use Rattle.vt_scan.proofs.Feeding.{fed_end}
+use Rattle.vt_scan.proofs.Steps.{fed_end}
 use Rattle.vt_scan.proofs.automaton.Scanner.feed_sequence.Goals as goal
 
 pub returns-in-End-clause-fed : goal.returns-in-End-clause-fed

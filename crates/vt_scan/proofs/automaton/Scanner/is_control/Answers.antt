@@ -1,6 +1,6 @@
 -- A control character leaves everything unchanged.
 use Rattle.std.proofs.Common.{refl}
-use Rattle.vt_scan.proofs.Feeding.{control_feeds}
+use Rattle.vt_scan.proofs.Steps.{control_feeds}
 use Rattle.vt_scan.proofs.automaton.Scanner.is_control.Goals as goal
 
 pub returns-then-is_control_byte-clause-feeds : goal.returns-then-is_control_byte-clause-feeds

@@ -1,6 +1,6 @@
 -- A printable byte leaves everything unchanged.
 use Rattle.std.proofs.Common.{refl, arith}
-use Rattle.vt_scan.proofs.Feeding.{text_feeds}
+use Rattle.vt_scan.proofs.Steps.{text_feeds}
 use Rattle.vt_scan.proofs.automaton.Scanner.is_text.Goals as goal
 
 pub returns-then-is_printable-clause-feeds : goal.returns-then-is_printable-clause-feeds

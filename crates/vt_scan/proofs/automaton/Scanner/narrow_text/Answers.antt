@@ -1,6 +1,6 @@
 -- Narrow characters when nothing is unfinished.
 use Rattle.std.proofs.Common.{take}
-use Rattle.vt_scan.proofs.NarrowTexts.{narrow_fed}
+use Rattle.vt_scan.proofs.Characters.{narrow_fed}
 use Rattle.vt_scan.proofs.automaton.Scanner.narrow_text.Goals as goal
 
 pub returns-then-is_fresh-clause-fed : goal.returns-then-is_fresh-clause-fed

@@ -3,7 +3,7 @@ use Rattle.std.proofs.Math.Logic.{∥∥₁_map}
 use Rattle.vt_scan.specs.Automaton.{State}
 use Rattle.vt_scan.specs.Internals.{scanner_value}
 use Rattle.vt_scan.specs.Scanner.{ScannerValue, StandsFor}
-use Rattle.vt_scan.proofs.Standing.{stands_without_text}
+use Rattle.vt_scan.proofs.Steps.{stands_without_text}
 use Rattle.vt_scan.proofs.automaton.Scanner.release_text.Goals as goal
 
 pub invariant_of-self : goal.invariant_of-self

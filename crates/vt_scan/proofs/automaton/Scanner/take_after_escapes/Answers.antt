@@ -2,7 +2,7 @@
 use Rattle.std.proofs.Common.{◌<◌, ◌∙◌, [], List, ℕ, arith, drop, get_or, length, subst, sym, take}
 use Rattle.std.proofs.lemmas.Bool.Decides.{nat_tests}
 use Rattle.vt_scan.specs.Scanner.{Feeds, FeedsAll, ScannerValue}
-use Rattle.vt_scan.proofs.Feeding.{no_event}
+use Rattle.vt_scan.proofs.Steps.{no_event}
 use Rattle.vt_scan.proofs.Leading.{feeds_first}
 use Rattle.vt_scan.proofs.Lists.{all_left, take_next}
 use Rattle.vt_scan.proofs.automaton.Scanner.take_after_escapes.Goals as goal

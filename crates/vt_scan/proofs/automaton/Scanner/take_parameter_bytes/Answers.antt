@@ -5,7 +5,7 @@ use Rattle.vt_scan.specs.Automaton.{State}
 use Rattle.vt_scan.specs.Parameters.{table_of}
 use Rattle.vt_scan.specs.Scanner.{ScannerValue, StandsFor}
 use Rattle.vt_scan.proofs.Leading.{parameters_feed, parameters_none}
-use Rattle.vt_scan.proofs.Standing.{stands_fed_all}
+use Rattle.vt_scan.proofs.Steps.{stands_fed_all}
 use Rattle.vt_scan.proofs.automaton.Scanner.take_parameter_bytes.Goals as goal
 
 pub invariant_of-self : goal.invariant_of-self

@@ -2,9 +2,8 @@
 use Rattle.std.proofs.Common.{◌∙◌, ap, refl, subst, sym}
 use Rattle.vt_scan.specs.Automaton.{State}
 use Rattle.vt_scan.specs.Scanner.{ScannerValue, StandsFor}
-use Rattle.vt_scan.proofs.Feeding.{no_event}
+use Rattle.vt_scan.proofs.Steps.{no_event, stands_fed}
 use Rattle.vt_scan.proofs.Leading.{marker_feeds}
-use Rattle.vt_scan.proofs.Standing.{stands_fed}
 use Rattle.vt_scan.proofs.automaton.Scanner.take_private_marker.Goals as goal
 
 pub invariant_of-self : goal.invariant_of-self

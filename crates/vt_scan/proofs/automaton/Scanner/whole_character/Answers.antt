@@ -1,5 +1,5 @@
 -- A whole character when nothing is incomplete.
-use Rattle.vt_scan.proofs.Whole.{found_before, found_fed}
+use Rattle.vt_scan.proofs.Readback.{found_before, found_fed}
 use Rattle.vt_scan.proofs.automaton.Scanner.whole_character.Goals as goal
 
 pub returns-then-is_fresh-clause-fed : goal.returns-then-is_fresh-clause-fed

@@ -1,5 +1,5 @@
 -- Wide characters when nothing is incomplete.
-use Rattle.vt_scan.proofs.WideTexts.{wide_all, wide_fed}
+use Rattle.vt_scan.proofs.Characters.{wide_all, wide_fed}
 use Rattle.vt_scan.proofs.automaton.Scanner.wide_text.Goals as goal
 
 pub returns-then-is_fresh-clause-fed : goal.returns-then-is_fresh-clause-fed

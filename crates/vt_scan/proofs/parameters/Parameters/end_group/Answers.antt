@@ -1,6 +1,6 @@
 -- A new group with one number, if there is room.
 use Rattle.std.proofs.Common.{arith, ◌∙◌, take}
-use Rattle.vt_scan.proofs.Tables.{step_ends, step_group, step_group_full}
+use Rattle.vt_scan.proofs.ParameterNumbers.{step_ends, step_group, step_group_full}
 use Rattle.vt_scan.proofs.parameters.Parameters.end_group.Goals as goal
 
 pub returns-then-self-eq-MAX_NUMBERS : goal.returns-then-self-eq-MAX_NUMBERS

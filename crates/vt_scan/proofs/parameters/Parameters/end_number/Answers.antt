@@ -1,7 +1,7 @@
 -- A new number in the last group, if there is room.
 use Rattle.std.proofs.Common.{arith, ◌∙◌, take}
-use Rattle.vt_scan.proofs.Rows.{Ascends-number}
-use Rattle.vt_scan.proofs.Tables.{step_number, step_number_full}
+use Rattle.vt_scan.proofs.ParameterGroups.{Ascends-number}
+use Rattle.vt_scan.proofs.ParameterNumbers.{step_number, step_number_full}
 use Rattle.vt_scan.proofs.parameters.Parameters.end_number.Goals as goal
 
 pub returns-then-self-eq-MAX_NUMBERS : goal.returns-then-self-eq-MAX_NUMBERS

@@ -1,7 +1,7 @@
 -- A group consists of the numbers between its start and its end.
 use Rattle.std.proofs.Common.{◌<◌, ◌≤◌, ◌∙◌, [], ap, arith, get_or, length, rules}
 use Rattle.vt_scan.specs.Parameters.{GroupTable}
-use Rattle.vt_scan.proofs.Rows.{group_lies, groups_count}
+use Rattle.vt_scan.proofs.ParameterGroups.{group_lies, groups_count}
 use Rattle.vt_scan.proofs.parameters.Parameters.group.Goals as goal
 
 pub group_start-start-requires : goal.group_start-start-requires

@@ -1,7 +1,7 @@
 -- There is one group more than ends.
 use Rattle.std.proofs.Common.{◌∙◌, ap, arith, length, sym}
 use Rattle.vt_scan.specs.Parameters.{GroupTable}
-use Rattle.vt_scan.proofs.Rows.{groups_count}
+use Rattle.vt_scan.proofs.ParameterGroups.{groups_count}
 use Rattle.vt_scan.proofs.parameters.Parameters.group_count.Goals as goal
 
 pub returns : goal.returns

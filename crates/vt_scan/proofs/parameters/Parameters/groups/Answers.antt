@@ -1,6 +1,6 @@
 -- The groups of the array, in order.
 use Rattle.std.proofs.Common.{arith, ◌<◌, get_or, rules, take, drop}
-use Rattle.vt_scan.proofs.Rows.{Ascends-below, next_rises}
+use Rattle.vt_scan.proofs.ParameterGroups.{Ascends-below, next_rises}
 use Rattle.vt_scan.proofs.parameters.Parameters.groups.Goals as goal
 
 pub offset_bounds-self-inside-start : goal.offset_bounds-self-inside-start

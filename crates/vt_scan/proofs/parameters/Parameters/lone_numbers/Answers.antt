@@ -2,8 +2,8 @@
 use Rattle.std.proofs.Common.{◌≡◌, ◌+◌, ◌-◌, ◌∙◌, ◌∷◌, [], ℕ, ap, arith, length, map, sym, take}
 use Rattle.std.proofs.lemmas.List.{length-take}
 use Rattle.vt_scan.specs.Parameters.{GroupTable, total}
-use Rattle.vt_scan.proofs.Lone.{lone_groups}
-use Rattle.vt_scan.proofs.Rows.{groups_count, groups_from-total}
+use Rattle.vt_scan.proofs.Lists.{lone_groups}
+use Rattle.vt_scan.proofs.ParameterGroups.{groups_count, groups_from-total}
 use Rattle.vt_scan.proofs.parameters.Parameters.lone_numbers.Goals as goal
 
 pub returns-then-self-count-clause-none : goal.returns-then-self-count-clause-none

@@ -1,7 +1,7 @@
 -- The first number of a group is at the start of the group.
 use Rattle.std.proofs.Common.{◌<◌, ◌∙◌, List, [], ap, arith, get_or, length, rules, sym}
 use Rattle.vt_scan.specs.Parameters.{GroupTable}
-use Rattle.vt_scan.proofs.Rows.{group_lies, group_none, groups_count}
+use Rattle.vt_scan.proofs.ParameterGroups.{group_lies, group_none, groups_count}
 use Rattle.vt_scan.proofs.parameters.Parameters.number.Goals as goal
 
 pub returns-then-i-self : goal.returns-then-i-self

@@ -7,7 +7,7 @@ use Rattle.vt_scan.specs.Automaton.{is_parameter}
 use Rattle.vt_scan.specs.Parameters.{table_of}
 use Rattle.vt_scan.specs.Texts.{IsParameterText}
 use Rattle.vt_scan.proofs.Lists.{all_left, take_past}
-use Rattle.vt_scan.proofs.Written.{parameters-append}
+use Rattle.vt_scan.proofs.ParameterNumbers.{parameters-append}
 use Rattle.vt_scan.proofs.parameters.Parameters.push_all.Goals as goal
 
 pub loop-count-preserved : goal.loop-count-preserved

@@ -1,7 +1,7 @@
 -- A digit changes the last number, if that is kept.
 use Rattle.std.proofs.Common.{arith, ◌∙◌, sym, take}
 use Rattle.vt_scan.specs.Internals.{groups_from}
-use Rattle.vt_scan.proofs.Tables.{step_digit, step_digit_cut}
+use Rattle.vt_scan.proofs.ParameterNumbers.{step_digit, step_digit_cut}
 use Rattle.vt_scan.proofs.parameters.Parameters.push_digit.Goals as goal
 
 pub returns-then-self : goal.returns-then-self

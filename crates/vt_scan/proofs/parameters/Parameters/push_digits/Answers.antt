@@ -4,8 +4,7 @@ use Rattle.std.proofs.lemmas.Bool.Decides.{nat_tests}
 use Rattle.std.proofs.lemmas.List.{take_more}
 use Rattle.vt_scan.specs.Internals.{is_digit}
 use Rattle.vt_scan.specs.Texts.{IsParameterText}
-use Rattle.vt_scan.proofs.Tables.{more_digits}
-use Rattle.vt_scan.proofs.Written.{parameters-append}
+use Rattle.vt_scan.proofs.ParameterNumbers.{more_digits, parameters-append}
 use Rattle.vt_scan.proofs.parameters.Parameters.push_digits.Goals as goal
 
 pub loop-count-preserved : goal.loop-count-preserved

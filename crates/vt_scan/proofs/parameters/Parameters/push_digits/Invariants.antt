@@ -3,7 +3,7 @@ use Rattle.std.proofs.Common.{◌≡◌, ◌+◌, ◌-◌, ◌≤◌, ◌++◌, 
 use Rattle.vt_scan.specs.Internals.{groups_from}
 use Rattle.vt_scan.specs.Parameters.{table_of}
 use Rattle.vt_scan.specs.Texts.{IsParameterText}
-use Rattle.vt_scan.proofs.Tables.{table}
+use Rattle.vt_scan.proofs.ParameterNumbers.{table}
 use Rattle.vt_scan.proofs.parameters.Parameters.push_digits.Given as goal
 
 abbrev pub invariant-loop-count : goal.invariant-loop-count

@@ -5,8 +5,8 @@ use Rattle.std.proofs.lemmas.List.{append-nil, take_more}
 use Rattle.vt_scan.specs.Internals.{is_digit}
 use Rattle.vt_scan.specs.Parameters.{table_of}
 use Rattle.vt_scan.specs.Texts.{IsParameterText}
-use Rattle.vt_scan.proofs.Tables.{more_digits, not_cut, step_ends, step_group, step_group_full}
-use Rattle.vt_scan.proofs.Written.{parameters-append}
+use Rattle.vt_scan.proofs.ParameterNumbers.{more_digits, not_cut, step_ends, step_group, step_group_full}
+use Rattle.vt_scan.proofs.ParameterNumbers.{parameters-append}
 use Rattle.vt_scan.proofs.parameters.Parameters.push_group.Goals as goal
 
 pub returns-then-place-eq-MAX_NUMBERS-clause-read : goal.returns-then-place-eq-MAX_NUMBERS-clause-read

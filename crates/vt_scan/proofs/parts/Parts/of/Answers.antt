@@ -1,7 +1,7 @@
 -- A separator ends a part; after the last part, or when there are 16, no further one matters.
 use Rattle.std.proofs.Common.{◌≡◌, ◌≤◌, ◌+◌, ◌-◌, ◌++◌, ◌∷◌, ◌∙◌, [], ap, arith, drop, length, nat_le, sym, take, true}
 use Rattle.std.proofs.lemmas.Bool.Decides.{nat_tests}
-use Rattle.vt_scan.proofs.Cutting.{cut_full, cut_last, cut_next, next_part}
+use Rattle.vt_scan.proofs.Lists.{cut_full, cut_last, cut_next, next_part}
 use Rattle.vt_scan.proofs.parts.Parts.of.Goals as goal
 use Rattle.vt_scan.proofs.parts.Parts.of.Goals.{then-loop-end-test+else-not-is_full, else-loop-end-test}
 

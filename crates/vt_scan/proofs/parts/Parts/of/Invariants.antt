@@ -1,6 +1,6 @@
 -- The parts so far, the next one, and those after it are those of the text.
 use Rattle.std.proofs.Common.{◌≡◌, ℕ, ◌-◌, List, length, take}
-use Rattle.vt_scan.proofs.Cutting.{Cuts, IsPart}
+use Rattle.vt_scan.proofs.Lists.{Cuts, IsPart}
 use Rattle.vt_scan.proofs.parts.Parts.of.Given as goal
 
 abbrev pub invariant-loop-end : goal.invariant-loop-end

@@ -1,7 +1,7 @@
 use Rattle.std.proofs.Common.{arith}
 use Rattle.vt_rows.specs.Plain.{plain_text}
 use Rattle.vt_screen.specs.Screen.{visible_row}
-use Rattle.vt_screen.proofs.ContentTexts.{texts_more}
+use Rattle.vt_screen.proofs.MadeContents.{texts_more}
 use Rattle.vt_screen.proofs.rows.RowsIterator.next.Goals as goal
 
 pub returns-clause-steps : goal.returns-clause-steps

@@ -2,7 +2,7 @@ use Rattle.std.proofs.Common.{rules, ◌≡◌, ℕ, List, ◌++◌, string_byte
 use Rattle.vt_cells.specs.Attrs.{Attrs}
 use Rattle.vt_cells.specs.Op.{FitsAttrs}
 use Rattle.vt_screen.specs.Shown.{SetsAttrs, attributes_text}
-use Rattle.vt_screen.proofs.Attributes.{attributes_set}
+use Rattle.vt_screen.proofs.ReadOperations.{attributes_set}
 use Rattle.vt_screen.specs.MadeOf.{IsMadeOf, drawing_controls, drawing_finals}
 use Rattle.vt_screen.proofs.MadeOf.{attributes_made}
 use Rattle.vt_screen.proofs.screen.Screen.attributes_formatted.Goals as goal

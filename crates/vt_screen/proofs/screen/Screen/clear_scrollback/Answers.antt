@@ -1,4 +1,4 @@
-use Rattle.vt_screen.proofs.Asides.{kept_cleared}
+use Rattle.vt_screen.proofs.StepInvariant.{kept_cleared}
 use Rattle.vt_screen.proofs.screen.Screen.clear_scrollback.Goals as goal
 
 pub invariant_of-self : goal.invariant_of-self

@@ -2,7 +2,7 @@ use Rattle.std.proofs.Common.{rules, ◌≡◌, ℕ, false, List, [], ◌++◌, 
 use Rattle.vt_screen.specs.Contents.{contents_of, lines_of, without_line_ends}
 use Rattle.vt_screen.specs.MadeOf.{IsMadeOf, plain_controls}
 use Rattle.vt_screen.specs.Screen.{IsScreen, visible_rows}
-use Rattle.vt_screen.proofs.MadePlain.{contents_made}
+use Rattle.vt_screen.proofs.MadeContents.{contents_made}
 use Rattle.vt_screen.proofs.screen.Screen.contents.Goals as goal
 
 pub returns-in-Ok-clause-controls : goal.returns-in-Ok-clause-controls

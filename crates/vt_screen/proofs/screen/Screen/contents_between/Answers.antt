@@ -2,7 +2,7 @@ use Rattle.std.proofs.Common.{rules, ◌≡◌, ℕ, List, [], ◌++◌, string_
 use Rattle.vt_screen.specs.Contents.{between_of}
 use Rattle.vt_screen.specs.MadeOf.{IsMadeOf, plain_controls}
 use Rattle.vt_screen.specs.Screen.{IsScreen}
-use Rattle.vt_screen.proofs.MadePlain.{between_made}
+use Rattle.vt_screen.proofs.MadeContents.{between_made}
 use Rattle.vt_screen.proofs.screen.Screen.contents_between.Goals as goal
 
 pub returns-in-Ok-clause-controls : goal.returns-in-Ok-clause-controls

@@ -1,14 +1,13 @@
 use Rattle.std.proofs.Common.{◌≡◌, ℕ, List, ◌++◌, string_bytes, ap, sym, ◌∙◌, subst}
 use Rattle.vt_screen.specs.Shown.{display, display_change}
-use Rattle.vt_screen.proofs.Became.{difference_redraws}
-use Rattle.vt_screen.proofs.EqualTexts.{difference_none, difference_tells}
-use Rattle.vt_screen.proofs.TouchedTexts.{difference_touches}
-use Rattle.vt_screen.proofs.Viewing.{same_shown}
-use Rattle.vt_screen.proofs.ContentTexts.{none_refused}
+use Rattle.vt_screen.proofs.ReadRedraws.{difference_redraws, difference_none, difference_tells}
+use Rattle.vt_screen.proofs.TouchReads.{difference_touches}
+use Rattle.vt_screen.proofs.Shown.{same_shown}
+use Rattle.vt_screen.proofs.MadeContents.{none_refused}
 use Rattle.vt_screen.specs.MadeOf.{IsMadeOf, drawing_finals, drawing_controls}
 use Rattle.vt_screen.proofs.MadeOf.{difference_made}
 use Rattle.vt_screen.specs.Again.{KeepsPlain}
-use Rattle.vt_screen.proofs.PlainAgain.{difference_keeps}
+use Rattle.vt_screen.proofs.AgainPlain.{difference_keeps}
 use Rattle.vt_screen.proofs.screen.Screen.contents_diff.Goals as goal
 
 pub returns-in-Ok-clause-redraws : goal.returns-in-Ok-clause-redraws

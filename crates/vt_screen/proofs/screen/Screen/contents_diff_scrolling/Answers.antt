@@ -1,6 +1,6 @@
 use Rattle.vt_screen.specs.Shown.{display}
-use Rattle.vt_screen.proofs.ContentTexts.{none_refused}
-use Rattle.vt_screen.proofs.EqualTexts.{difference_none}
+use Rattle.vt_screen.proofs.MadeContents.{none_refused}
+use Rattle.vt_screen.proofs.ReadRedraws.{difference_none}
 use Rattle.vt_screen.proofs.screen.Screen.contents_diff_scrolling.Goals as goal
 
 pub returns-in_err-text-clause-never : goal.returns-in_err-text-clause-never

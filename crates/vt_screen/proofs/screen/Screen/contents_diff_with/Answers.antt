@@ -1,10 +1,10 @@
 use Rattle.std.proofs.Common.{string_bytes, ap, refl}
 use Rattle.vt_screen.specs.Shown.{display, form_of}
-use Rattle.vt_screen.proofs.ContentTexts.{none_refused}
+use Rattle.vt_screen.proofs.MadeContents.{none_refused}
 use Rattle.vt_screen.specs.Diffs.{form_with}
-use Rattle.vt_screen.proofs.Forms.{difference_none_in}
-use Rattle.vt_screen.proofs.RepeatedDiffs.{diff_again, diff_empty, diff_made, diff_none, diff_redraw, diff_redraws, diff_rows}
-use Rattle.vt_screen.proofs.RepeatedDiffs.{diff_portable}
+use Rattle.vt_screen.proofs.AgainForms.{difference_none_in}
+use Rattle.vt_screen.proofs.RepeatDiffs.{diff_again, diff_empty, diff_made, diff_none, diff_redraw, diff_redraws}
+use Rattle.vt_screen.proofs.RepeatDiffs.{diff_rows, diff_portable}
 use Rattle.vt_screen.proofs.screen.Screen.contents_diff_with.Goals as goal
 
 pub returns-clause-text : goal.returns-clause-text

@@ -1,11 +1,10 @@
 use Rattle.std.proofs.Common.{◌≡◌, ℕ, List, ◌++◌, string_bytes, ap, sym, ◌∙◌, subst}
 use Rattle.vt_screen.specs.Shown.{shown_text}
-use Rattle.vt_screen.proofs.Became.{redraw_redraws}
-use Rattle.vt_screen.proofs.EqualTexts.{redraws_tell}
+use Rattle.vt_screen.proofs.ReadRedraws.{redraw_redraws, redraws_tell}
 use Rattle.vt_screen.specs.MadeOf.{IsMadeOf, drawing_finals, drawing_controls}
 use Rattle.vt_screen.proofs.MadeOf.{redraw_made}
 use Rattle.vt_screen.specs.Again.{KeepsPlain}
-use Rattle.vt_screen.proofs.PlainAgain.{redraw_keeps}
+use Rattle.vt_screen.proofs.AgainPlain.{redraw_keeps}
 use Rattle.vt_screen.proofs.screen.Screen.contents_formatted.Goals as goal
 
 pub returns-in-Ok-clause-redraws : goal.returns-in-Ok-clause-redraws

@@ -3,7 +3,7 @@ use Rattle.vt_rows.specs.Basic.{nothing_written}
 use Rattle.vt_screen.specs.Capture.{basic_texts}
 use Rattle.vt_screen.specs.MadeOf.{IsMadeOf, capture_finals, plain_controls}
 use Rattle.vt_screen.specs.Screen.{IsScreen, visible_rows}
-use Rattle.vt_screen.proofs.CaptureTexts.{capture_is}
+use Rattle.vt_screen.proofs.MadeCaptures.{capture_is}
 use Rattle.vt_screen.proofs.screen.Screen.contents_formatted_basic.Goals as goal
 
 pub returns-in-Ok-clause-controls : goal.returns-in-Ok-clause-controls

@@ -1,11 +1,11 @@
 use Rattle.std.proofs.Common.{◌≡◌, ℕ, List, ◌++◌, string_bytes, ap, sym, ◌∙◌, subst}
 use Rattle.vt_screen.specs.AnyRegion.{reset_text}
 use Rattle.vt_screen.specs.Shown.{display}
-use Rattle.vt_screen.proofs.AnyRegion.{reset_redraws, resets_tell}
+use Rattle.vt_screen.proofs.StepRegions.{reset_redraws, resets_tell}
 use Rattle.vt_screen.specs.MadeOf.{IsMadeOf, drawing_finals, reset_controls}
 use Rattle.vt_screen.proofs.MadeOf.{reset_made}
 use Rattle.vt_screen.specs.Again.{MakesPlain}
-use Rattle.vt_screen.proofs.PlainAgain.{reset_makes}
+use Rattle.vt_screen.proofs.AgainPlain.{reset_makes}
 use Rattle.vt_screen.proofs.screen.Screen.contents_formatted_reset.Goals as goal
 
 pub returns-in-Ok-clause-redraws : goal.returns-in-Ok-clause-redraws

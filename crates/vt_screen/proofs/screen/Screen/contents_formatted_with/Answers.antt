@@ -5,8 +5,8 @@ use Rattle.vt_screen.specs.Again.{KeepsPlain}
 use Rattle.vt_screen.specs.MadeOf.{IsMadeOf, drawing_finals, drawing_controls}
 use Rattle.vt_screen.specs.Shown.{form_of, shown_text_in}
 use Rattle.vt_screen.specs.Portable.{IsPortableAnywhere}
-use Rattle.vt_screen.proofs.PortableOutputs.{redraw_is_portable}
-use Rattle.vt_screen.proofs.Forms.{redraw_keeps_in, redraw_made_in, redraw_redraws_in, redraws_tell_in}
+use Rattle.vt_screen.proofs.AgainForms.{redraw_is_portable, redraw_keeps_in, redraw_made_in, redraw_redraws_in}
+use Rattle.vt_screen.proofs.AgainForms.{redraws_tell_in}
 use Rattle.vt_screen.proofs.screen.Screen.contents_formatted_with.Goals as goal
 
 pub returns-in-Ok-clause-redraws : goal.returns-in-Ok-clause-redraws

@@ -2,12 +2,12 @@ use Rattle.std.proofs.Common.{◌≡◌, ℕ, List, ◌++◌, string_bytes, ap, 
 use Rattle.vt_cells.specs.Op.{bytes_of_all}
 use Rattle.vt_redraw.specs.Redraw.{cursor_state}
 use Rattle.vt_screen.specs.Shown.{display}
-use Rattle.vt_screen.proofs.CursorRead.{cursor_turns}
-use Rattle.vt_screen.proofs.TouchedTexts.{cursor_touches}
+use Rattle.vt_screen.proofs.ReadRedraws.{cursor_turns}
+use Rattle.vt_screen.proofs.TouchReads.{cursor_touches}
 use Rattle.vt_screen.specs.MadeOf.{IsMadeOf, drawing_finals, drawing_controls}
 use Rattle.vt_screen.proofs.MadeOf.{cursor_made}
 use Rattle.vt_screen.specs.Again.{KeepsPlain}
-use Rattle.vt_screen.proofs.PlainAgain.{cursor_keeps}
+use Rattle.vt_screen.proofs.AgainPlain.{cursor_keeps}
 use Rattle.vt_screen.proofs.screen.Screen.cursor_state_formatted.Goals as goal
 
 pub returns-in-Ok-clause-turns : goal.returns-in-Ok-clause-turns

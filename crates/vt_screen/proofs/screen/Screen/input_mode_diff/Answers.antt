@@ -1,7 +1,7 @@
 use Rattle.std.proofs.Common.{◌≡◌, ℕ, List, ◌++◌, string_bytes, ap, sym, ◌∙◌, subst, []}
-use Rattle.vt_screen.specs.InputTexts.{input_change}
-use Rattle.vt_screen.proofs.InputRead.{change_none, change_tells, modes_changed}
-use Rattle.vt_screen.proofs.ContentTexts.{none_refused}
+use Rattle.vt_screen.specs.States.{input_change}
+use Rattle.vt_screen.proofs.ReadStates.{change_none, change_tells, modes_changed}
+use Rattle.vt_screen.proofs.MadeContents.{none_refused}
 use Rattle.vt_screen.specs.MadeOf.{IsMadeOf, input_controls}
 use Rattle.vt_screen.proofs.MadeOf.{input_change_made}
 use Rattle.vt_screen.proofs.screen.Screen.input_mode_diff.Goals as goal

@@ -1,6 +1,6 @@
 use Rattle.std.proofs.Common.{◌≡◌, ℕ, List, ◌++◌, string_bytes, ap, ◌∙◌, sym, subst, []}
-use Rattle.vt_screen.specs.InputTexts.{input_text}
-use Rattle.vt_screen.proofs.InputRead.{modes_set}
+use Rattle.vt_screen.specs.States.{input_text}
+use Rattle.vt_screen.proofs.ReadStates.{modes_set}
 use Rattle.vt_screen.specs.MadeOf.{IsMadeOf, input_controls}
 use Rattle.vt_screen.proofs.MadeOf.{input_made}
 use Rattle.vt_screen.proofs.screen.Screen.input_mode_formatted.Goals as goal

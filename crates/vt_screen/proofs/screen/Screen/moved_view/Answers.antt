@@ -3,8 +3,7 @@ use Rattle.vt_redraw.specs.Moved.{IsBand, picture_after_move}
 use Rattle.vt_screen.specs.Screen.{ScreenValue}
 use Rattle.vt_screen.specs.Shown.{display}
 use Rattle.vt_screen.specs.contracts.screen.Screen.{the_view}
-use Rattle.vt_screen.proofs.Shown.{shown_height}
-use Rattle.vt_screen.proofs.Viewing.{active_is, with_view_is}
+use Rattle.vt_screen.proofs.Shown.{shown_height, active_is, with_view_is}
 use Rattle.vt_screen.proofs.screen.Screen.moved_view.Goals as goal
 
 pub moved-requires-clause-above : goal.moved-requires-clause-above

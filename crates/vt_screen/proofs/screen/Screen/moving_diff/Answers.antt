@@ -1,11 +1,11 @@
 use Rattle.std.proofs.Common.{◌≤◌, length, string_bytes, arith}
-use Rattle.vt_screen.proofs.MovedRead.{AreDiffed, shorter_none}
-use Rattle.vt_screen.proofs.PortableBands.{moving_portable}
-use Rattle.vt_screen.proofs.ShiftedAgain.{moving_keeps}
-use Rattle.vt_screen.proofs.ShiftedRead.{moving_redraws, moving_tells}
-use Rattle.vt_screen.proofs.ShortMovesRead.{moving_short, version_keeps, version_made, version_moving, version_portable}
-use Rattle.vt_screen.proofs.ShortMovesRead.{version_redraws, version_shorter, version_tells}
-use Rattle.vt_screen.proofs.Viewing.{same_shown}
+use Rattle.vt_screen.proofs.ReadMoved.{AreDiffed, shorter_none}
+use Rattle.vt_screen.proofs.PortableElements.{moving_portable}
+use Rattle.vt_screen.proofs.AgainMoved.{moving_keeps}
+use Rattle.vt_screen.proofs.ReadShifted.{moving_redraws, moving_tells}
+use Rattle.vt_screen.proofs.ShortMoves.{moving_short, version_keeps, version_made, version_moving, version_portable}
+use Rattle.vt_screen.proofs.ShortMoves.{version_redraws, version_shorter, version_tells}
+use Rattle.vt_screen.proofs.Shown.{same_shown}
 use Rattle.vt_screen.specs.Shown.{display, display_change_in}
 use Rattle.vt_screen.proofs.screen.Screen.moving_diff.Goals as goal
 

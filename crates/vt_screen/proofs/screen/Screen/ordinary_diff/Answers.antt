@@ -4,11 +4,10 @@ use Rattle.vt_screen.specs.Again.{KeepsPlain}
 use Rattle.vt_screen.specs.MadeOf.{IsMadeOf, drawing_finals, drawing_controls}
 use Rattle.vt_screen.specs.Portable.{IsPortableFrom}
 use Rattle.vt_screen.specs.Shown.{display, display_change_in}
-use Rattle.vt_screen.proofs.Forms.{difference_keeps_in, difference_made_in, difference_none_in, difference_redraws_in}
-use Rattle.vt_screen.proofs.Forms.{difference_tells_in}
-use Rattle.vt_screen.proofs.PortableOutputs.{difference_is_portable}
-use Rattle.vt_screen.proofs.TouchedTexts.{difference_touches}
-use Rattle.vt_screen.proofs.Viewing.{same_shown}
+use Rattle.vt_screen.proofs.AgainForms.{difference_keeps_in, difference_made_in, difference_none_in}
+use Rattle.vt_screen.proofs.AgainForms.{difference_redraws_in, difference_tells_in, difference_is_portable}
+use Rattle.vt_screen.proofs.TouchReads.{difference_touches}
+use Rattle.vt_screen.proofs.Shown.{same_shown}
 use Rattle.vt_screen.proofs.screen.Screen.ordinary_diff.Goals as goal
 
 pub returns-in-Ok-clause-text : goal.returns-in-Ok-clause-text

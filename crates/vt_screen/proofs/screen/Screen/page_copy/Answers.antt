@@ -2,7 +2,7 @@ use Rattle.std.proofs.Common.{None, false, subst, sym}
 use Rattle.vt_grid.specs.Page.{Page}
 use Rattle.vt_grid.specs.Scrollback.{Scrollback, no_scrollback}
 use Rattle.vt_screen.specs.Internals.{IsKept}
-use Rattle.vt_screen.proofs.Kept.{kept_alone}
+use Rattle.vt_screen.proofs.StepInvariant.{kept_alone}
 use Rattle.vt_screen.proofs.screen.Screen.page_copy.Goals as goal
 
 pub invariant_of-result : goal.invariant_of-result

@@ -1,8 +1,7 @@
 use Rattle.std.proofs.Common.{◌<◌, length, subst, sym, arith}
 use Rattle.vt_redraw.specs.Picture.{Picture, SamePictureSize}
 use Rattle.vt_screen.specs.Shown.{display}
-use Rattle.vt_screen.proofs.Shown.{shown_height}
-use Rattle.vt_screen.proofs.Viewing.{same_shown}
+use Rattle.vt_screen.proofs.Shown.{shown_height, same_shown}
 use Rattle.vt_screen.proofs.screen.Screen.row_diff.Goals as goal
 
 pub write_row_diff-requires-clause-size : goal.write_row_diff-requires-clause-size

@@ -1,6 +1,6 @@
 use Rattle.std.proofs.Common.{◌+◌}
 use Rattle.vt_screen.specs.Contents.{rows_left}
-use Rattle.vt_screen.proofs.MadePlain.{rows_made}
+use Rattle.vt_screen.proofs.MadeContents.{rows_made}
 use Rattle.vt_screen.proofs.screen.Screen.rows.Goals as goal
 
 pub returns-clause-controls : goal.returns-clause-controls

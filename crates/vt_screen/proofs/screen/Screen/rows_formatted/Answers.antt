@@ -1,12 +1,10 @@
 use Rattle.std.proofs.Common.{ℕ, List, length, ap, ◌∙◌, subst, sym}
 use Rattle.vt_screen.specs.RowsShown.{formatted_text, texts_from}
 use Rattle.vt_screen.specs.Shown.{display}
-use Rattle.vt_screen.proofs.RowItemsTold.{formatted_linked, formatted_off, formatted_turns}
-use Rattle.vt_screen.proofs.RowTexts.{texts_count}
+use Rattle.vt_screen.proofs.ReadRows.{formatted_linked, formatted_off, formatted_turns, texts_count, texts_at}
 use Rattle.vt_screen.specs.MadeOf.{IsMadeOf, drawing_controls, drawing_finals}
 use Rattle.vt_screen.specs.RowsShown.{text_at}
 use Rattle.vt_screen.proofs.MadeOf.{row_made}
-use Rattle.vt_screen.proofs.RowTexts.{texts_at}
 use Rattle.vt_screen.proofs.screen.Screen.rows_formatted.Goals as goal
 
 pub returns-clause-count : goal.returns-clause-count

@@ -1,5 +1,5 @@
 use Rattle.std.proofs.Common.{string_bytes}
-use Rattle.vt_screen.proofs.OrRedraw.{or_plain}
+use Rattle.vt_screen.proofs.AgainForms.{or_plain}
 use Rattle.vt_screen.proofs.screen.Screen.scrolling_diff.Goals as goal
 
 pub returns-clause-text : goal.returns-clause-text

@@ -1,4 +1,4 @@
-use Rattle.vt_screen.proofs.Asides.{kept_viewed}
+use Rattle.vt_screen.proofs.StepInvariant.{kept_viewed}
 use Rattle.vt_screen.proofs.screen.Screen.set_scrollback.Goals as goal
 
 pub invariant_of-self-2 : goal.invariant_of-self-2

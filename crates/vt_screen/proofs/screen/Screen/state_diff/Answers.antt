@@ -1,9 +1,9 @@
 use Rattle.std.proofs.Common.{◌≡◌, ℕ, List, ◌++◌, string_bytes, ap, sym, ◌∙◌, subst}
 use Rattle.vt_screen.specs.States.{AreModes, SetsModesPlainly, state_change}
-use Rattle.vt_screen.proofs.StatesAgain.{change_again}
-use Rattle.vt_screen.proofs.StateRead.{change_gives, state_none, state_tells}
-use Rattle.vt_screen.proofs.Viewing.{same_shown}
-use Rattle.vt_screen.proofs.ContentTexts.{none_refused}
+use Rattle.vt_screen.proofs.AgainStates.{change_again}
+use Rattle.vt_screen.proofs.ReadStates.{change_gives, state_none, state_tells}
+use Rattle.vt_screen.proofs.Shown.{same_shown}
+use Rattle.vt_screen.proofs.MadeContents.{none_refused}
 use Rattle.vt_screen.specs.MadeOf.{IsMadeOf, drawing_finals, state_controls}
 use Rattle.vt_screen.proofs.MadeOf.{state_change_made}
 use Rattle.vt_screen.proofs.screen.Screen.state_diff.Goals as goal

@@ -1,16 +1,15 @@
 use Rattle.std.proofs.Common.{◌≤◌, ℕ, List, ◌++◌, string_bytes, sym, subst, length}
 use Rattle.vt_screen.specs.Diffs.{RepeatsOnlyInRows, finals_with, form_with}
-use Rattle.vt_screen.specs.InputTexts.{input_change}
+use Rattle.vt_screen.specs.States.{input_change, AreModes, GivesState, IsEmptyIfSameState, IsSameStateIfEmpty}
+use Rattle.vt_screen.specs.States.{IsStateReaderOf, SetsModesOnScreens, state_change_in, state_diff_controls}
 use Rattle.vt_screen.specs.MadeOf.{IsMadeOf}
 use Rattle.vt_screen.specs.Shown.{display, display_change_in, shown_text_in}
-use Rattle.vt_screen.specs.States.{AreModes, GivesState, IsEmptyIfSameState, IsSameStateIfEmpty, IsStateReaderOf}
-use Rattle.vt_screen.specs.StatesWith.{SetsModesOnScreens, state_change_in, state_diff_controls}
 use Rattle.vt_cells.proofs.Sinks.{on_err}
-use Rattle.vt_screen.proofs.ContentTexts.{none_refused}
-use Rattle.vt_screen.proofs.Forms.{difference_none_in}
-use Rattle.vt_screen.proofs.InputRead.{change_none}
-use Rattle.vt_screen.proofs.StatesWith.{diff_again, diff_empty, diff_gives, diff_made, diff_none, diff_rows}
-use Rattle.vt_screen.proofs.StatesWith.{shorter_then, some_then, then_some}
+use Rattle.vt_screen.proofs.MadeContents.{none_refused}
+use Rattle.vt_screen.proofs.AgainForms.{difference_none_in}
+use Rattle.vt_screen.proofs.ReadStates.{change_none}
+use Rattle.vt_screen.proofs.AgainStates.{diff_again, diff_empty, diff_gives, diff_made, diff_none, diff_rows}
+use Rattle.vt_screen.proofs.AgainStates.{shorter_then, some_then, then_some}
 use Rattle.vt_screen.proofs.screen.Screen.state_diff_with.Goals as goal
 
 pub returns-in-Ok-clause-text : goal.returns-in-Ok-clause-text

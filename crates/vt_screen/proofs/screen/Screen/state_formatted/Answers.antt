@@ -1,7 +1,7 @@
 use Rattle.std.proofs.Common.{◌≡◌, ℕ, List, ◌++◌, string_bytes, ap, ◌∙◌, sym, subst}
 use Rattle.vt_screen.specs.States.{HasDefaultMouseAndStyle, SetsModesPlainly, state_text}
-use Rattle.vt_screen.proofs.StatesAgain.{state_again}
-use Rattle.vt_screen.proofs.StateRead.{state_gives}
+use Rattle.vt_screen.proofs.AgainStates.{state_again}
+use Rattle.vt_screen.proofs.ReadStates.{state_gives}
 use Rattle.vt_screen.specs.MadeOf.{IsMadeOf, drawing_finals, state_controls}
 use Rattle.vt_screen.proofs.MadeOf.{state_made}
 use Rattle.vt_screen.proofs.screen.Screen.state_formatted.Goals as goal

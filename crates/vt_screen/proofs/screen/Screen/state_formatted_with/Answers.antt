@@ -1,10 +1,9 @@
 use Rattle.std.proofs.Common.{ℕ, List, ◌++◌, string_bytes, ap, sym, ◌∙◌, subst, refl}
-use Rattle.vt_screen.specs.InputTexts.{input_text}
+use Rattle.vt_screen.specs.States.{input_text, GivesState, HasDefaultMouseAndStyle, IsStateReader, SetsModesPlainly}
 use Rattle.vt_screen.specs.MadeOf.{IsMadeOf, drawing_controls, drawing_finals, state_controls}
-use Rattle.vt_screen.specs.States.{GivesState, HasDefaultMouseAndStyle, IsStateReader, SetsModesPlainly}
-use Rattle.vt_screen.proofs.InputRead.{modes_set}
+use Rattle.vt_screen.proofs.ReadStates.{modes_set}
 use Rattle.vt_screen.proofs.MadeOf.{input_made, state_of_both}
-use Rattle.vt_screen.proofs.StatesWith.{redraw_again, redraw_gives}
+use Rattle.vt_screen.proofs.AgainStates.{redraw_again, redraw_gives}
 use Rattle.vt_screen.proofs.screen.Screen.state_formatted_with.Goals as goal
 
 pub returns-in-Ok-clause-text : goal.returns-in-Ok-clause-text

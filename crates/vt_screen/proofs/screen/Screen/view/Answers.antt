@@ -7,7 +7,7 @@ use Rattle.vt_screen.specs.Shown.{display}
 use Rattle.vt_screen.specs.contracts.screen.Screen.{the_view}
 use Rattle.vt_cells.specs.Op.{FitsAttrs}
 use Rattle.vt_screen.specs.Screen.{ScreenValue, AreColored}
-use Rattle.vt_screen.proofs.Viewing.{active_is, with_view_is}
+use Rattle.vt_screen.proofs.Shown.{active_is, with_view_is}
 use Rattle.vt_screen.proofs.screen.Screen.view.Goals as goal
 
 pub returns-clause-colored : goal.returns-clause-colored

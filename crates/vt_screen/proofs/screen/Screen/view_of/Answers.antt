@@ -5,9 +5,9 @@ use Rattle.vt_grid.specs.Scrollback.{visible}
 use Rattle.vt_redraw.specs.Picture.{picture_of, picture_over}
 use Rattle.vt_screen.specs.Screen.{ScreenValue, above_page}
 use Rattle.vt_screen.specs.contracts.screen.Screen.{the_view}
-use Rattle.vt_screen.proofs.Asides.{visible_if}
-use Rattle.vt_screen.proofs.ShiftedViews.{canvas_with, own_view}
-use Rattle.vt_screen.proofs.Viewing.{active_is}
+use Rattle.vt_screen.proofs.StepInvariant.{visible_if}
+use Rattle.vt_screen.proofs.ReadShifted.{canvas_with, own_view}
+use Rattle.vt_screen.proofs.Shown.{active_is}
 use Rattle.vt_screen.proofs.screen.Screen.view_of.Goals as goal
 
 pub new-requires-2-clause-above : goal.new-requires-2-clause-above

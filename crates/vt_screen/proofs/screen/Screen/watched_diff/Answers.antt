@@ -1,7 +1,7 @@
 use Rattle.std.proofs.Common.{subst, sym}
 use Rattle.vt_redraw.specs.Picture.{Picture, SamePictureSize}
 use Rattle.vt_screen.specs.Shown.{display}
-use Rattle.vt_screen.proofs.Viewing.{same_shown}
+use Rattle.vt_screen.proofs.Shown.{same_shown}
 use Rattle.vt_screen.proofs.screen.Screen.watched_diff.Goals as goal
 
 pub write_contents_diff_in-requires : goal.write_contents_diff_in-requires

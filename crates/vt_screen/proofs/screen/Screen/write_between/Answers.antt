@@ -1,10 +1,10 @@
 use Rattle.std.proofs.Common.{◌<◌, ◌+◌, ◌-◌, ◌++◌, List, ℕ, sym, ap, ◌∙◌, arith}
 use Rattle.vt_cells.proofs.Sinks.{on_err}
-use Rattle.vt_redraw.proofs.Refusals.{grown}
+use Rattle.vt_redraw.proofs.WriterSteps.{grown}
 use Rattle.std.specs.List.{flat_map, range_with_len}
 use Rattle.std.proofs.lemmas.List.{append_assoc}
 use Rattle.vt_screen.specs.Contents.{part_of}
-use Rattle.vt_screen.proofs.ContentTexts.{part_some, parts_more}
+use Rattle.vt_screen.proofs.MadeContents.{part_some, parts_more}
 use Rattle.vt_screen.proofs.screen.Screen.write_between.Goals as goal
 
 pub loop-row-preserved : goal.loop-row-preserved

@@ -3,7 +3,7 @@ use Rattle.std.proofs.lemmas.Result.{on_err_weaker}
 use Rattle.vt_rows.specs.Basic.{Written}
 use Rattle.vt_screen.specs.Capture.{basic_texts}
 use Rattle.vt_screen.specs.Screen.{visible_rows}
-use Rattle.vt_screen.proofs.Captures.{some_texts}
+use Rattle.vt_screen.proofs.MadeCaptures.{some_texts}
 use Rattle.vt_screen.proofs.screen.Screen.write_contents_formatted_basic.Goals as goal
 
 pub returns-in-Full-clause-state : goal.returns-in-Full-clause-state

@@ -3,7 +3,7 @@ use Rattle.std.specs.List.{slice_range}
 use Rattle.vt_rows.specs.Row.{RowValue}
 use Rattle.vt_screen.specs.Capture.{all_rows}
 use Rattle.vt_cells.proofs.Sinks.{on_err}
-use Rattle.vt_screen.proofs.Captures.{above_rows, after_step, slice_more, stopped_behind, texts_step}
+use Rattle.vt_screen.proofs.MadeCaptures.{above_rows, after_step, slice_more, stopped_behind, texts_step}
 use Rattle.vt_screen.proofs.screen.Screen.write_rows.Goals as goal
 
 pub stacked_row-row-requires-clause-sound : goal.stacked_row-row-requires-clause-sound

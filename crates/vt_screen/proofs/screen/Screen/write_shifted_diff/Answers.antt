@@ -6,11 +6,10 @@ use Rattle.vt_redraw.specs.Picture.{Picture, SamePictureSize}
 use Rattle.vt_redraw.specs.Redraw.{difference}
 use Rattle.vt_redraw.specs.Script.{attr_ops}
 use Rattle.vt_redraw.specs.Shifted.{in_default_attrs}
-use Rattle.vt_redraw.proofs.Shifting.{shifted_size}
+use Rattle.vt_redraw.proofs.Moving.{shifted_size}
 use Rattle.vt_screen.specs.Shown.{display}
-use Rattle.vt_screen.proofs.ShiftedViews.{first_inside, on_ok, shifted_is_page, shifted_view, shifting_written}
-use Rattle.vt_screen.proofs.Shown.{shown_height}
-use Rattle.vt_screen.proofs.Viewing.{same_shown}
+use Rattle.vt_screen.proofs.ReadShifted.{first_inside, on_ok, shifted_is_page, shifted_view, shifting_written}
+use Rattle.vt_screen.proofs.Shown.{shown_height, same_shown}
 use Rattle.vt_screen.proofs.screen.Screen.write_shifted_diff.Goals as goal
 
 pub write_row_shifts-requires-clause-size : goal.write_row_shifts-requires-clause-size

@@ -4,7 +4,7 @@ use Rattle.vt_grid.specs.Scrollback.{no_scrollback, visible}
 use Rattle.vt_screen.specs.Capture.{all_rows}
 use Rattle.vt_screen.specs.Internals.{WritesRows, main_scrollback}
 use Rattle.vt_screen.specs.Screen.{visible_rows}
-use Rattle.vt_screen.proofs.Captures.{above_rows, above_offset, active_in_view, same_visible, visible_part}
+use Rattle.vt_screen.proofs.MadeCaptures.{above_rows, above_offset, active_in_view, same_visible, visible_part}
 use Rattle.vt_screen.proofs.screen.Screen.write_visible_rows.Goals as goal
 
 pub returns : goal.returns

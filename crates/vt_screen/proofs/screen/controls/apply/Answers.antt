@@ -1,6 +1,6 @@
 use Rattle.std.proofs.Common.{rules}
 use Rattle.vt_cells.proofs.Packing.{attrs_fit}
-use Rattle.vt_screen.proofs.Kept.{kept_page_after}
+use Rattle.vt_screen.proofs.StepInvariant.{kept_page_after}
 use Rattle.vt_screen.proofs.screen.controls.apply.Goals as goal
 
 pub invariant_of-screen : goal.invariant_of-screen

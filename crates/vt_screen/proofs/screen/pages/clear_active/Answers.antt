@@ -1,4 +1,4 @@
-use Rattle.vt_screen.proofs.Asides.{kept_fresh}
+use Rattle.vt_screen.proofs.StepInvariant.{kept_fresh}
 use Rattle.vt_screen.proofs.screen.pages.clear_active.Goals as goal
 
 pub invariant_of-screen : goal.invariant_of-screen

@@ -1,4 +1,4 @@
-use Rattle.vt_screen.proofs.Kept.{kept_saved}
+use Rattle.vt_screen.proofs.StepInvariant.{kept_saved}
 use Rattle.vt_screen.proofs.screen.pages.decsc.Goals as goal
 
 pub invariant_of-screen : goal.invariant_of-screen

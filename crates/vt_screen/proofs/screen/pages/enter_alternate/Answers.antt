@@ -1,6 +1,6 @@
 use Rattle.std.proofs.Common.{ap, ◌∙◌}
 use Rattle.vt_screen.specs.Pages.{screen_after_enter}
-use Rattle.vt_screen.proofs.Exchanging.{entered_with}
+use Rattle.vt_screen.proofs.StepPages.{entered_with}
 use Rattle.vt_screen.proofs.screen.pages.enter_alternate.Goals as goal
 
 pub returns-clause-ok : goal.returns-clause-ok

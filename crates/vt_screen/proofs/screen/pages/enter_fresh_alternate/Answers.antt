@@ -1,4 +1,4 @@
-use Rattle.vt_screen.proofs.Exchanging.{entered_fresh_with}
+use Rattle.vt_screen.proofs.StepPages.{entered_fresh_with}
 use Rattle.vt_screen.proofs.screen.pages.enter_fresh_alternate.Goals as goal
 
 pub returns-clause-ok : goal.returns-clause-ok

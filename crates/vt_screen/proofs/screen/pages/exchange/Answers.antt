@@ -1,4 +1,4 @@
-use Rattle.vt_screen.proofs.Asides.{kept_exchanged}
+use Rattle.vt_screen.proofs.StepInvariant.{kept_exchanged}
 use Rattle.vt_screen.proofs.screen.pages.exchange.Goals as goal
 
 pub invariant_of-screen-2 : goal.invariant_of-screen-2

@@ -1,7 +1,7 @@
 use Rattle.std.proofs.Common.{refl, ap, ◌∙◌}
 use Rattle.vt_screen.specs.Internals.{with_fresh_other, with_fresh_page}
 use Rattle.vt_screen.specs.contracts.screen.Screen.{the_view}
-use Rattle.vt_screen.proofs.Exchanging.{reset_is}
+use Rattle.vt_screen.proofs.StepPages.{reset_is}
 use Rattle.vt_screen.proofs.screen.pages.ris.Goals as goal
 
 pub returns : goal.returns

@@ -1,4 +1,4 @@
-use Rattle.vt_screen.proofs.Asides.{kept_out_of_view}
+use Rattle.vt_screen.proofs.StepInvariant.{kept_out_of_view}
 use Rattle.vt_screen.proofs.screen.pages.show_alternate.Goals as goal
 
 pub invariant_of-screen : goal.invariant_of-screen

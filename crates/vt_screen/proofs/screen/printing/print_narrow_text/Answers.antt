@@ -6,7 +6,7 @@ use Rattle.vt_cells.proofs.Packing.{attrs_fit}
 use Rattle.vt_screen.specs.Screen.{IsPrintable}
 use Rattle.vt_screen.specs.Texts.{screen_after_text}
 use Rattle.vt_screen.specs.contracts.screen.Screen.{the_view}
-use Rattle.vt_screen.proofs.TextSteps.{kept_text, text_stepped_is}
+use Rattle.vt_screen.proofs.StepRuns.{kept_text, text_stepped_is}
 use Rattle.vt_screen.proofs.screen.printing.print_narrow_text.Goals as goal
 
 pub invariant_of-screen : goal.invariant_of-screen

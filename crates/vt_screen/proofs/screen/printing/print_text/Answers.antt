@@ -6,7 +6,7 @@ use Rattle.vt_rows.proofs.Texts.{narrow_ascii, narrow_printable}
 use Rattle.vt_screen.specs.Screen.{IsPrintable}
 use Rattle.vt_screen.specs.Texts.{screen_after_text}
 use Rattle.vt_screen.specs.contracts.screen.Screen.{the_view}
-use Rattle.vt_screen.proofs.TextSteps.{kept_text, text_stepped_is}
+use Rattle.vt_screen.proofs.StepRuns.{kept_text, text_stepped_is}
 use Rattle.vt_screen.proofs.screen.printing.print_text.Goals as goal
 
 pub invariant_of-screen : goal.invariant_of-screen

@@ -5,8 +5,8 @@ use Rattle.vt_grid.specs.Resize.{page_resized}
 use Rattle.vt_grid.specs.Scrollback.{Scrollback, no_scrollback}
 use Rattle.vt_screen.specs.Screen.{ScreenValue}
 use Rattle.vt_screen.specs.contracts.screen.Screen.{the_view}
-use Rattle.vt_screen.proofs.Resized.{kept_in_place, more_in_place, nothing_in_place, other_in_place}
-use Rattle.vt_screen.proofs.Resized.{quiet_in_place, view_in_place}
+use Rattle.vt_screen.proofs.StepPages.{kept_in_place, more_in_place, nothing_in_place, other_in_place, quiet_in_place}
+use Rattle.vt_screen.proofs.StepPages.{view_in_place}
 use Rattle.vt_screen.proofs.screen.resizing.add_rows.Goals as goal
 
 pub add_rows-requires-clause-own : goal.add_rows-requires-clause-own

@@ -6,8 +6,8 @@ use Rattle.vt_screen.specs.Pages.{reports_of}
 use Rattle.vt_screen.specs.CallsOfRun.{TakesCalls}
 use Rattle.vt_screen.specs.Screen.{ScreenValue}
 use Rattle.vt_screen.specs.contracts.screen.Screen.{the_view}
-use Rattle.vt_screen.proofs.Reporting.{same_callbacks, reported_to}
-use Rattle.vt_screen.proofs.Resized.{kept_by_steps, called_by_steps}
+use Rattle.vt_screen.proofs.CallsReported.{same_callbacks, reported_to}
+use Rattle.vt_screen.proofs.StepPages.{kept_by_steps, called_by_steps}
 use Rattle.vt_screen.proofs.screen.resizing.refit_pages.Goals as goal
 
 pub invariant_of-screen-2 : goal.invariant_of-screen-2

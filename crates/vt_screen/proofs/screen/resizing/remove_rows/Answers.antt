@@ -6,8 +6,8 @@ use Rattle.vt_screen.specs.Pages.{reports_of}
 use Rattle.vt_screen.specs.CallsOfRun.{TakesCalls}
 use Rattle.vt_screen.specs.Screen.{ScreenValue}
 use Rattle.vt_screen.specs.contracts.screen.Screen.{the_view}
-use Rattle.vt_screen.proofs.Reporting.{same_callbacks, reported_to}
-use Rattle.vt_screen.proofs.Resized.{called_in_place, fewer_in_place, kept_in_place, view_in_place, width_in_place}
+use Rattle.vt_screen.proofs.CallsReported.{same_callbacks, reported_to}
+use Rattle.vt_screen.proofs.StepPages.{called_in_place, fewer_in_place, kept_in_place, view_in_place, width_in_place}
 use Rattle.vt_screen.proofs.screen.resizing.remove_rows.Goals as goal
 
 pub remove_alternate_rows-requires-clause-fewer : goal.remove_alternate_rows-requires-clause-fewer

@@ -5,8 +5,8 @@ use Rattle.vt_grid.specs.Resize.{resize_reports}
 use Rattle.vt_grid.specs.Scrollback.{no_scrollback}
 use Rattle.vt_screen.specs.Pages.{reports_of}
 use Rattle.vt_screen.specs.CallsOfRun.{TakesCalls}
-use Rattle.vt_screen.proofs.Reporting.{same_callbacks, reported_to}
-use Rattle.vt_screen.proofs.Resized.{AlternateDone, alternate_done, if_ok}
+use Rattle.vt_screen.proofs.CallsReported.{same_callbacks, reported_to}
+use Rattle.vt_screen.proofs.StepPages.{AlternateDone, alternate_done, if_ok}
 use Rattle.vt_screen.proofs.screen.resizing.resize_alternate.Given as given
 use Rattle.vt_screen.proofs.screen.resizing.resize_alternate.Goals as goal
 

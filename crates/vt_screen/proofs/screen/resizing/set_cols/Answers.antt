@@ -5,7 +5,8 @@ use Rattle.vt_grid.specs.Resize.{page_resized}
 use Rattle.vt_grid.specs.Scrollback.{Scrollback, no_scrollback}
 use Rattle.vt_screen.specs.Screen.{ScreenValue}
 use Rattle.vt_screen.specs.contracts.screen.Screen.{the_view}
-use Rattle.vt_screen.proofs.Resized.{kept_columns, kept_idle, nothing_columns, other_columns, other_width, quiet_in_place, view_columns}
+use Rattle.vt_screen.proofs.StepPages.{kept_columns, kept_idle, nothing_columns, other_columns, other_width}
+use Rattle.vt_screen.proofs.StepPages.{quiet_in_place, view_columns}
 use Rattle.vt_screen.proofs.screen.resizing.set_cols.Goals as goal
 
 pub set_cols-requires-clause-different : goal.set_cols-requires-clause-different

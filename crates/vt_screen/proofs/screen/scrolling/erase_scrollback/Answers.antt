@@ -3,8 +3,8 @@ use Rattle.std.proofs.Common.{refl, subst, rules}
 use Rattle.std.specs.List.{FoldsTo}
 use Rattle.vt_screen.specs.Run.{CalledOnScroll}
 use Rattle.vt_screen.specs.contracts.screen.Screen.{the_view}
-use Rattle.vt_screen.proofs.Asides.{kept_cleared}
-use Rattle.vt_screen.proofs.Reporting.{same_callbacks, reported_to, scrollback_erased}
+use Rattle.vt_screen.proofs.StepInvariant.{kept_cleared}
+use Rattle.vt_screen.proofs.CallsReported.{same_callbacks, reported_to, scrollback_erased}
 use Rattle.vt_screen.proofs.screen.scrolling.erase_scrollback.Goals as goal
 
 pub invariant_of-screen : goal.invariant_of-screen

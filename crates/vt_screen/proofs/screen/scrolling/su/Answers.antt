@@ -5,12 +5,10 @@ use Rattle.vt_grid.specs.Outgoing.{scrolled_out}
 use Rattle.vt_grid.specs.Scrollback.{rows_reported}
 use Rattle.vt_screen.specs.Run.{CalledOnScroll}
 use Rattle.vt_screen.specs.contracts.screen.Screen.{the_view}
-use Rattle.vt_screen.proofs.Asides.{kept_sent, rows_scrolled_out}
-use Rattle.vt_screen.proofs.StableScrollback.{stable_scrolled_out}
-use Rattle.vt_screen.proofs.Kept.{kept_scrolled_up}
-use Rattle.vt_screen.proofs.Reporting.{same_callbacks, reported_to, scrolled_up_by}
+use Rattle.vt_screen.proofs.StepInvariant.{kept_sent, rows_scrolled_out, kept_scrolled_up}
+use Rattle.vt_screen.proofs.StepScrollback.{stable_scrolled_out, coloring}
+use Rattle.vt_screen.proofs.CallsReported.{same_callbacks, reported_to, scrolled_up_by}
 use Rattle.vt_screen.proofs.screen.scrolling.su.Goals as goal
-use Rattle.vt_screen.proofs.Coloring.{coloring}
 
 pub invariant_of-screen-2 : goal.invariant_of-screen-2
 invariant_of-screen-2 g c =

@@ -1,5 +1,5 @@
 use Rattle.vt_cells.specs.Op.{MoveTo, bytes_of}
-use Rattle.vt_screen.proofs.Numbers.{place_more}
+use Rattle.vt_screen.proofs.ReadTexts.{place_more}
 use Rattle.vt_screen.proofs.short_moves.elements.several_numbers.Goals as goal
 
 pub returns-then-ends_with_h-clause-element : goal.returns-then-ends_with_h-clause-element

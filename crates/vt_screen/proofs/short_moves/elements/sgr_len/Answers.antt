@@ -1,5 +1,5 @@
 use Rattle.std.proofs.Common.{rules, ◌≡◌, ◌<◌, ◌-◌, ◌+◌, ℕ, arith, length, subst}
-use Rattle.vt_screen.proofs.Numbers.{AreKnownTo, known_first, known_last, known_more}
+use Rattle.vt_screen.proofs.ReadTexts.{AreKnownTo, known_first, known_last, known_more}
 use Rattle.vt_screen.proofs.short_moves.elements.sgr_len.Goals as goal
 
 pub loop-number-init : goal.loop-number-init

@@ -1,5 +1,5 @@
 use Rattle.std.proofs.Common.{◌≤◌, ◌-◌, length}
-use Rattle.vt_screen.proofs.Numbers.{AreKnownTo}
+use Rattle.vt_screen.proofs.ReadTexts.{AreKnownTo}
 use Rattle.vt_screen.proofs.short_moves.elements.sgr_len.Given as goal
 
 -- The loop invariant: the numbers before `end` are known, and more may follow.

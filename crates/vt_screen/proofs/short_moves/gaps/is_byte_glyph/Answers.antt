@@ -1,7 +1,7 @@
 use Rattle.std.proofs.Common.{rules, ◌≡◌, ◌<◌, ◌≤◌, ◌∙◌, ap, sym, length, false, slice_index_or}
 use Rattle.vt_cells.specs.Attrs.{Attrs, same_attrs}
 use Rattle.vt_cells.specs.Cell.{attrs_of, is_wide, text_of}
-use Rattle.vt_screen.proofs.GapsRead.{byte_glyph}
+use Rattle.vt_screen.proofs.ReadGaps.{byte_glyph}
 use Rattle.vt_screen.proofs.short_moves.gaps.is_byte_glyph.Goals as goal
 
 pub returns : goal.returns

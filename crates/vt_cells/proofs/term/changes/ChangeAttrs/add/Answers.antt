@@ -1,8 +1,7 @@
 use Rattle.std.proofs.Common.{◌++◌, ◌∙◌, List, ℕ, ap, refl}
-use Rattle.vt_cells.specs.BufferInternals.{buffered_text}
+use Rattle.vt_cells.specs.Internals.{buffered_text}
 use Rattle.vt_cells.specs.Op.{change_text}
-use Rattle.vt_cells.proofs.Buffers.{gathered_then}
-use Rattle.vt_cells.proofs.Sinks.{on_err, stopped_first}
+use Rattle.vt_cells.proofs.Sinks.{gathered_then, on_err, stopped_first}
 use Rattle.vt_cells.proofs.term.changes.ChangeAttrs.add.Goals as goal
 
 pub returns-in_err-make_room-clause-err : goal.returns-in_err-make_room-clause-err

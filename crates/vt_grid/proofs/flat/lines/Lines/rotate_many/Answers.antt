@@ -3,7 +3,7 @@ use Rattle.std.proofs.lemmas.List.{with_items_is}
 use Rattle.vt_rows.specs.Internals.{rotation_source}
 use Rattle.vt_grid.specs.Flat.{line_at, no_line}
 use Rattle.vt_grid.specs.Lines.{LinesValue}
-use Rattle.vt_grid.proofs.Windows.{window-turned}
+use Rattle.vt_grid.proofs.Bounds.{window-turned}
 use Rattle.vt_grid.proofs.flat.lines.Lines.rotate_many.Goals as goal
 
 pub returns-then-to-from-clause-lines : goal.returns-then-to-from-clause-lines

@@ -1,5 +1,5 @@
 use Rattle.std.proofs.Common.{◌∙◌, arith}
-use Rattle.vt_grid.proofs.Windows.{window-again}
+use Rattle.vt_grid.proofs.Bounds.{window-again}
 use Rattle.vt_grid.proofs.flat.lines.Lines.rotate_up.Goals as goal
 
 pub loop-step-preserved : goal.loop-step-preserved

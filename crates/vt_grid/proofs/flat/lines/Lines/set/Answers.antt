@@ -2,7 +2,7 @@ use Rattle.std.proofs.Common.{◌≡◌, ◌∙◌, List, length, drop, set, ap,
 use Rattle.std.proofs.lemmas.List.{length-drop}
 use Rattle.vt_grid.specs.declared.flat.Line.{Line}
 use Rattle.vt_grid.specs.Lines.{LinesValue}
-use Rattle.vt_grid.proofs.Windows.{window-set}
+use Rattle.vt_grid.proofs.Bounds.{window-set}
 use Rattle.vt_grid.proofs.flat.lines.Lines.set.Goals as goal
 
 pub returns : goal.returns

@@ -1,7 +1,7 @@
 use Rattle.std.proofs.Common.{length, sym, ◌∙◌, arith}
 use Rattle.vt_screen.specs.RowsShown.{changed_text}
 use Rattle.vt_screen.specs.Shown.{display}
-use Rattle.vt_screen.proofs.RowTexts.{texts_more}
+use Rattle.vt_screen.proofs.ReadRows.{texts_more}
 use Rattle.vt_screen.proofs.rows.diff.RowsDiffIterator.next.Goals as goal
 
 pub returns-clause-steps : goal.returns-clause-steps
