@@ -34,9 +34,9 @@ class Callbacks:
 class Kitty:
     """A Screen of kitty, in this process."""
 
-    tries, settle, repeats = 1, 0, True
+    tries, repeats = 1, True
     # It fills erased cells with all attributes, where others use only the background.
-    blanks_have_marks, may_reach = True, False
+    blanks_have_marks, stays_on_wide = True, False
 
     @staticmethod
     def is_there():
@@ -79,14 +79,12 @@ class Kitty:
         return row[: self.cols]
 
     def raw(self):
-        """Returns what is the same only if what is displayed is the same."""
-        lines = [self.screen.line(at).as_ansi() for at in range(self.screen.lines)]
-        return lines, self.cursor(), self.screen.cursor_visible
-
-    def display(self, _):
-        """Returns the rows of cells, and below them the cursor."""
+        """Returns the rows of cells, and below them the cursor. `as_ansi` leaves out the looks of blanks at a row's end."""
         rows = [self.row(self.screen.line(at)) for at in range(self.screen.lines)]
         return [*rows, [seen_cursor(*self.cursor(), self.screen.cursor_visible, self.cols)]]
+
+    def display(self, raw):
+        return raw
 
     def end(self):
         pass
@@ -96,7 +94,7 @@ class XtermJs:
     """A terminal of xterm.js, in a process of node."""
 
     # REP of version 3.8.1 does not move the cursor.
-    tries, settle, repeats, blanks_have_marks, may_reach = 1, 0, False, False, False
+    tries, repeats, blanks_have_marks, stays_on_wide = 1, False, False, False
     node, count = None, 0
 
     @staticmethod

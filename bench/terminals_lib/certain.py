@@ -3,7 +3,7 @@
 import os
 import re
 
-from causes import Widths
+from widths import Widths
 
 DEFINITION = f"{os.path.dirname(__file__)}/../../crates/vt_redraw/specs/Certain.antt"
 # The parts of the definition, and the number of columns of the characters that they list.
@@ -30,6 +30,6 @@ def odd_characters(make):
     for columns, characters in certain_characters().items():
         for at in range(0, len(characters), BATCH):
             batch = characters[at : at + BATCH]
-            if widths.is_odd("".join(batch), columns * len(batch)):
-                yield from ((it, columns) for it in batch if widths.is_odd(it, columns))
+            if widths.columns("".join(batch)) != columns * len(batch):
+                yield from ((it, columns) for it in batch if widths.columns(it) != columns)
     widths.terminal.end()

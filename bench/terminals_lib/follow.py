@@ -4,11 +4,14 @@ import dataclasses
 import os
 import time
 
-from causes import Widths, cause_of, differences
+from causes import LINE_FEED, WIDTHS, WRAPPED, cause_of, differences, is_line_feed
+from moved import moved
 from painting import painted
-from texts import KINDS, MOVING, REPEATING, is_redraw, pair_of_updates, redraw_of, updates
+from texts import KINDS, REPEATING, is_redraw, pair_of_updates, redraw_of, updates
+from widths import Twins, Widths, glyphs_of
 
-RESET = b"\x1bc\x1b[?25h"
+# Without SGR 0 first, xterm's RIS keeps the color of bold text.
+RESET = b"\x1b[m\x1bc\x1b[?25h"
 
 
 @dataclasses.dataclass
@@ -27,6 +30,8 @@ class Terminals:
 
     def __init__(self, make, size):
         self.make, self.size, self.made = make, size, {}
+        # For each chain, the update with whose redraw it begins, if any, and those whose diffs it has read.
+        self.chains = {}
         self.widths = None
 
     def get(self, name):
@@ -40,13 +45,63 @@ class Terminals:
         repeats = self.make.repeats
         return [kind for kind in update.outputs if kind in wanted and (repeats or kind not in REPEATING)]
 
-    def cause(self, places, screens, kind):
-        """Returns why cells differ after output of a kind."""
+    def start(self, kind, update):
+        """Begins a chain of diffs anew, with the redraw of an update."""
+        self.get(kind).read(RESET + update.outputs[redraw_of(kind)])
+        self.chains[kind] = [update]
+
+    def extend(self, kind, update):
+        """Lets a chain read the diff of an update."""
+        self.get(kind).read(update.outputs[kind])
+        self.chains.setdefault(kind, [None]).append(update)
+
+    def pair(self, kind, update):
+        """Returns two texts after which a terminal displays the same if an output of a kind is right."""
+        if is_redraw(kind):
+            return RESET + update.outputs[kind], RESET + painted(update, self.make.blanks_have_marks)
+        name, (first, *later) = redraw_of(kind), self.chains[kind]
+        chain = b"".join([first.outputs[name] if first else b"", *(it.outputs[kind] for it in later)])
+        return RESET + chain, RESET + update.outputs[name]
+
+    def differ(self, texts):
+        """Returns the cells that differ after two texts."""
+        for name, text in zip(("one", "two"), texts):
+            self.get(name).read(text)
+        return differences(self.get("one"), self.get("two"))
+
+    def cause(self, places, kind, update, past):
+        """Returns why cells differ after output of a kind. `past` are the last update that was compared, if any, and those
+        after it up to this one.
+        """
+        if self.make.stays_on_wide and is_line_feed(places, update, update.outputs[kind]):
+            return LINE_FEED
         self.widths = self.widths or Widths(self.make)
-        return cause_of(places, screens, self.widths, kind in MOVING)
+        screens = [update] if is_redraw(kind) else [it for it in self.chains[kind] if it]
+        odd_glyphs = {it[2:4] for screen in screens for it in self.widths.odd_glyphs(screen.rows)}
+        texts = self.pair(kind, update)
+        if not odd_glyphs or not self.differ(texts):
+            return cause_of(places, update, {}, False)
+        names = {it[1] for screen in screens for row in screen.rows for it in glyphs_of(row)}
+        twins = Twins(odd_glyphs, names)
+        needs_odd = not self.differ([twins.replace(text) for text in texts])
+        return cause_of(places, update, self.odd_places(kind, past), needs_odd)
+
+    def odd_places(self, kind, past):
+        """Returns the causes of the places on which glyphs with other widths have had an effect since the last update that
+        was compared, where the outputs have moved them.
+        """
+        own, wrapped, row = set(), set(), 0
+        for update in past[1][-1:] if is_redraw(kind) else (past[0], *past[1]):
+            if update:
+                rows, words = update.rows, (update.outputs[kind], row, len(update.rows))
+                own = moved(own, *words) | self.widths.odd_places(rows)
+                wrapped = moved(wrapped, *words) | self.widths.wrapped_places(rows)
+                row = update.cursor[0]
+        return {place: WIDTHS for place in own} | {place: WRAPPED for place in wrapped}
 
     def begin(self):
         """Resets the terminals."""
+        self.chains = {}
         for terminal in self.made.values():
             terminal.read(RESET)
 
@@ -55,9 +110,9 @@ class Terminals:
         for terminal in [*self.made.values(), *([self.widths.terminal] if self.widths else [])]:
             terminal.end()
 
-    def faults(self, number, update, before, wanted):
+    def faults(self, number, past, wanted):
         """Returns the differences after an update, whose diffs the chains have read, and puts the chains right."""
-        found = []
+        found, update = [], past[1][-1]
         self.get("painting").read(painted(update, self.make.blanks_have_marks))
         kinds = self.kinds(update, wanted)
         for kind in sorted(kinds, key=is_redraw, reverse=True):
@@ -67,10 +122,10 @@ class Terminals:
             other = self.get("painting" if is_redraw(kind) else name)
             places = differences(self.get(kind), other)
             if places:
-                cause = self.cause(places, (update, before or update), kind)
+                cause = self.cause(places, kind, update, past)
                 found.append(Fault(kind, cause, number, places, update))
             if places and not is_redraw(kind):
-                self.get(kind).read(RESET + update.outputs[name])
+                self.start(kind, update)
         return found
 
 
@@ -82,15 +137,16 @@ def follow(terminals, stream, wanted, every, most):
     terminals.begin()
     all_updates = [*updates(program, size, every or -(-os.path.getsize(path) // most), path)]
     step = max(1, -(-len(all_updates) // most))
-    count, found, before = 0, [], None
+    count, found, before, later = 0, [], None, []
     for number, update in enumerate(all_updates):
+        later.append(update)
         for kind in terminals.kinds(update, wanted):
             if not is_redraw(kind):
-                terminals.get(kind).read(update.outputs[kind])
+                terminals.extend(kind, update)
         if number % step == 0 or update is all_updates[-1]:
             count += 1
-            found += terminals.faults(number, update, before, wanted)
-            before = update
+            found += terminals.faults(number, (before, later), wanted)
+            before, later = update, []
     return count, found
 
 
@@ -99,8 +155,9 @@ def pair_faults(terminals, program, first, second, wanted=KINDS):
     before, update = pair_of_updates(program, terminals.size, first, second)
     for kind in terminals.kinds(update, wanted):
         if not is_redraw(kind):
-            terminals.get(kind).read(RESET + before.outputs[redraw_of(kind)] + update.outputs[kind])
-    return terminals.faults(0, update, before, wanted)
+            terminals.start(kind, before)
+            terminals.extend(kind, update)
+    return terminals.faults(0, (before, [update]), wanted)
 
 
 def smaller(text, is_odd, until):

@@ -10,7 +10,7 @@ from windows import QUERY, SECONDS, Server, cells
 class Vte:
     """A terminal of VTE, which is drawn into a picture in memory."""
 
-    repeats, tries, settle, blanks_have_marks, may_reach = True, 25, 0, False, False
+    repeats, tries, blanks_have_marks, stays_on_wide = True, 1, False, False
 
     @staticmethod
     def is_there():
@@ -35,6 +35,9 @@ class Vte:
         terminal.set_size(cols, rows)
         terminal.set_scrollback_lines(0)
         terminal.set_font(Pango.FontDescription("DejaVu Sans Mono 9"))
+        # Cells so large that no glyph reaches into the next one.
+        terminal.set_cell_width_scale(2)
+        terminal.set_cell_height_scale(2)
         terminal.set_cursor_blink_mode(Library.CursorBlinkMode.OFF)
         terminal.set_bold_is_bright(False)
         terminal.connect("commit", self.take_answer)
@@ -79,7 +82,8 @@ class Vte:
         surface.flush()
         data, stride = bytes(surface.get_data()), surface.get_stride()
         high, wide = rows * terminal.get_char_height(), cols * terminal.get_char_width()
-        top, left = (room.height - high) // 2, (room.width - wide) // 2 * 4
+        padding = terminal.get_style_context().get_padding(terminal.get_state_flags())
+        top, left = padding.top, padding.left * 4
         starts = range(top * stride + left, (top + high) * stride + left, stride)
         return [data[at : at + 4 * wide] for at in starts], self.place
 

@@ -13,12 +13,33 @@ import time
 FIXED = "-misc-fixed-{}-r-normal-{}-18-120-100-100-c-{}-iso10646-1"
 ALACRITTY = """font: {normal: {family: DejaVu Sans Mono}, size: 9}
 scrolling: {history: 0}
-window: {decorations: none}
+window: {decorations: none, padding: {x: 2, y: 2}}
 cursor: {style: {shape: Block, blinking: Never}}
 """
+# The fonts of st, none of whose glyphs is larger than its cells. The last one is for wide glyphs. There is no italic font,
+# so that italic text has a color of its own: st takes glyphs that a font lacks from those that it has used for others, and
+# the italic one lacks box drawing.
+ST_FONTS = "8x13", "8x13B", "12x13ja"
+X11_FONTS = "/usr/share/fonts/X11/misc"
+FONTCONFIG = "<?xml version='1.0'?><fontconfig><dir>{0}/fonts</dir><cachedir>{0}/cache</cachedir></fontconfig>"
 # Room for 12 windows of up to 50 rows and 160 columns, four in a row.
 WIDTH, HEIGHT, PER_ROW = 6000, 3000, 4
 SECONDS = 20
+# Foregrounds and backgrounds with which a terminal draws everything anew, one after the other. The pixel in the window's
+# corner, which belongs to no cell, tells which of them it has drawn; if the screen is reversed, it has the foreground.
+COLORS = ((205, 205, 205), (1, 1, 1)), ((204, 204, 204), (0, 0, 0))
+# The fonts of st, none of whose glyphs is larger than its cells. The last one is for wide glyphs. There is no italic font,
+# so that italic text has a color of its own: st takes glyphs that a font lacks from those that it has used for others, and
+# the italic one lacks box drawing.
+ST_FONTS = "8x13", "8x13B", "12x13ja"
+X11_FONTS = "/usr/share/fonts/X11/misc"
+FONTCONFIG = "<?xml version='1.0'?><fontconfig><dir>{0}/fonts</dir><cachedir>{0}/cache</cachedir></fontconfig>"
+# Room for 12 windows of up to 50 rows and 160 columns, four in a row.
+WIDTH, HEIGHT, PER_ROW = 6000, 3000, 4
+SECONDS = 20
+# Background colors with which a terminal draws everything anew, one after the other. The pixel in the window's corner,
+# which belongs to no cell, tells which of them it has drawn.
+PAPERS = (1, 1, 1), (0, 0, 0)
 # Hides the cursor, whose color and outline depend on what is stored for blanks, and asks for its position.
 QUERY = b"\x1b[?25l\x1b[6n"
 
@@ -37,6 +58,11 @@ class Server:
         self.display = f":{self.process.stdout.readline().strip()}"
         with open(f"{self.folder}/alacritty.yml", "w", encoding="ascii") as file:
             file.write(ALACRITTY)
+        os.mkdir(f"{self.folder}/fonts")
+        for name in ST_FONTS:
+            os.symlink(f"{X11_FONTS}/{name}.pcf.gz", f"{self.folder}/fonts/{name}.pcf.gz")
+        with open(f"{self.folder}/fonts.conf", "w", encoding="ascii") as file:
+            file.write(FONTCONFIG.format(self.folder))
         self.picture = open(f"{self.folder}/Xvfb_screen0", "rb", buffering=0)
         head = struct.unpack(">25I", self.picture.read(100))
         self.begin, self.stride = head[0] + 12 * head[19], head[12]
@@ -87,9 +113,9 @@ def cells(lines, rows, cols):
 class Window:
     """A terminal in a window. It runs a command that passes on what is written to a pipe."""
 
-    repeats, tries, settle, program, blanks_have_marks = True, 25, 0.15, None, False
-    # Whether it draws glyphs that reach into the next cell.
-    may_reach = False
+    repeats, tries, program, blanks_have_marks = True, 3, None, False
+    # Whether its cursor is in the first column of a wide glyph at the end of a row, and remains there after a line feed.
+    stays_on_wide = False
 
     @classmethod
     def is_there(cls):
@@ -110,6 +136,7 @@ class Window:
         )
         self.into = os.open(f"{self.folder}/in", os.O_WRONLY)
         self.out = os.open(f"{self.folder}/out", os.O_RDONLY)
+        self.is_drawn = False
         self.read(b"")
         self.area = self.find()
 
@@ -146,13 +173,31 @@ class Window:
             if select.select([self.out], [], [], 1)[0]:
                 answer += os.read(self.out, 4096)
         row, col = re.search(rb"\x1b\[(\d+);(\d+)R$", answer).groups()
-        self.place_of_cursor = int(row) - 1, int(col) - 1
+        self.place_of_cursor, self.is_drawn = (int(row) - 1, int(col) - 1), False
 
     def cursor(self):
         return self.place_of_cursor
 
+    def draw(self):
+        """Makes the terminal draw all cells anew, and waits until it has done so. It replies before it draws, and what it
+        draws of a change may depend on the order of the changes.
+        """
+        for ink, paper in COLORS:
+            self.read(b"\x1b]10;#%02x%02x%02x\x07\x1b]11;#%02x%02x%02x\x07" % (*ink, *paper))
+            until = time.monotonic() + SECONDS
+            while tuple(self.server.lines((*self.area[:2], 1, 1))[0][2::-1]) not in (ink, paper):
+                if time.monotonic() > until:
+                    raise TimeoutError("the terminal does not draw")
+                time.sleep(0.005)
+        lines = None
+        while lines != (lines := self.server.lines(self.area)):
+            time.sleep(0.01)
+        self.is_drawn = True
+
     def raw(self):
         """Returns the lines of pixels and the reported cursor."""
+        if not self.is_drawn:
+            self.draw()
         return self.server.lines(self.area), self.place_of_cursor
 
     def display(self, raw):
@@ -169,29 +214,30 @@ class Window:
 
 
 class Xterm(Window):
-    """xterm, with bitmap fonts, which do not reach beyond their cells."""
+    """xterm, with bitmap fonts, which do not reach beyond their cells. It draws a glyph that its bold font lacks twice, and
+    whatever follows it a pixel further to the right, so that bold is a color here.
+    """
 
-    program, settle = "xterm", 0.05
+    program = "xterm"
 
     def words(self, x, y):
         rows, cols = self.size
-        fonts = {"-fn": ("medium", "", 90), "-fb": ("bold", "", 90), "-fw": ("medium", "ja", 180)}
-        fonts["-fwb"] = fonts["-fw"]
-        words = ["xterm", "-u8", "-b", "0", "-bw", "0", "+sb", "-sl", "0", "-geometry", f"{cols}x{rows}+{x}+{y}"]
-        for name, (weight, style, width) in fonts.items():
-            words += [name, FIXED.format(weight, style, width)]
-        return [*words, "-xrm", "*cursorBlink: false", "-bg", "black", "-fg", "gray80", "-e"]
+        words = ["xterm", "-u8", "-b", "2", "-bw", "0", "+sb", "-sl", "0", "-geometry", f"{cols}x{rows}+{x}+{y}"]
+        words += ["-fn", FIXED.format("medium", "", 90), "-fw", FIXED.format("medium", "ja", 180)]
+        for resource in ("allowBoldFonts: false", "colorBDMode: true", "colorBD: orange", "cursorBlink: false"):
+            words += ["-xrm", f"*{resource}"]
+        return [*words, "-bg", "black", "-fg", "gray80", "-e"]
 
 
 class St(Window):
     """st, the simple terminal."""
 
-    program, may_reach = "stterm", True
+    program, stays_on_wide = "stterm", True
 
     def words(self, x, y):
         rows, cols = self.size
-        font = "DejaVu Sans Mono:pixelsize=14:antialias=false"
-        return ["stterm", "-g", f"{cols}x{rows}+{x}+{y}", "-f", font, "-e"]
+        fonts = ["env", f"FONTCONFIG_FILE={self.server.folder}/fonts.conf"]
+        return [*fonts, "stterm", "-g", f"{cols}x{rows}+{x}+{y}", "-f", "Fixed:pixelsize=13", "-e"]
 
 
 class Alacritty(Window):
