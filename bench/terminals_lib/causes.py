@@ -7,11 +7,11 @@ from widths import unequal
 
 WIDTHS, WRAPPED, SHIFTED = "own widths", "wrap after own widths", "shifted by own widths"
 PLACE, INTENSITY, WIDE, OTHER = "cursor's place", "bold and dim", "wide glyph", "other"
-LINE_FEED = "line feed after a wide glyph"
+LINE_FEED, ORPHAN = "line feed after a wide glyph", "half of a wide glyph"
 # The causes that lie in the terminal, and those that are faults of other output than portable output only.
-OWN, AVOIDED = (WIDTHS, LINE_FEED), (SHIFTED, WRAPPED)
+OWN, AVOIDED = (WIDTHS, LINE_FEED, ORPHAN), (SHIFTED, WRAPPED)
 # From the least telling cause of a cell to the most telling one.
-CAUSES = (WIDTHS, WRAPPED, PLACE, INTENSITY, WIDE, OTHER)
+CAUSES = (WIDTHS, ORPHAN, WRAPPED, PLACE, INTENSITY, WIDE, OTHER)
 
 
 def differences(one, two):
@@ -55,7 +55,7 @@ def cause_of(places, screen, odd, needs_odd):
     another width is replaced by one on whose width terminals agree.
     """
     cause = max((cause_in(screen, place, odd) for place in places), key=CAUSES.index)
-    is_odd = cause in (WIDTHS, WRAPPED)
+    is_odd = cause in (WIDTHS, ORPHAN, WRAPPED)
     if needs_odd:
         return cause if is_odd else SHIFTED
     # Without that, such glyphs explain nothing.

@@ -36,7 +36,7 @@ class Kitty:
 
     tries, repeats = 1, True
     # It fills erased cells with all attributes, where others use only the background.
-    blanks_have_marks, stays_on_wide = True, False
+    blanks_have_marks, stays_on_wide, keeps_orphans = True, False, False
 
     @staticmethod
     def is_there():
@@ -94,7 +94,7 @@ class XtermJs:
     """A terminal of xterm.js, in a process of node."""
 
     # REP of version 3.8.1 does not move the cursor.
-    tries, repeats, blanks_have_marks, stays_on_wide = 1, False, False, False
+    tries, repeats, blanks_have_marks, stays_on_wide, keeps_orphans = 1, False, False, False, False
     node, count = None, 0
 
     @staticmethod

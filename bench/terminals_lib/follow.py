@@ -4,11 +4,11 @@ import dataclasses
 import os
 import time
 
-from causes import LINE_FEED, WIDTHS, WRAPPED, cause_of, differences, is_line_feed
+from causes import LINE_FEED, ORPHAN, WIDTHS, WRAPPED, cause_of, differences, is_line_feed
 from moved import moved
 from painting import painted
 from texts import KINDS, REPEATING, is_redraw, pair_of_updates, redraw_of, updates
-from widths import Twins, Widths, glyphs_of
+from widths import Twins, Widths, glyphs_of, wide_places
 
 # Without SGR 0 first, xterm's RIS keeps the color of bold text.
 RESET = b"\x1b[m\x1bc\x1b[?25h"
@@ -90,14 +90,17 @@ class Terminals:
         """Returns the causes of the places on which glyphs with other widths have had an effect since the last update that
         was compared, where the outputs have moved them.
         """
-        own, wrapped, row = set(), set(), 0
+        own, wrapped, orphans, wide, row = set(), set(), set(), set(), 0
         for update in past[1][-1:] if is_redraw(kind) else (past[0], *past[1]):
             if update:
                 rows, words = update.rows, (update.outputs[kind], row, len(update.rows))
                 own = moved(own, *words) | self.widths.odd_places(rows)
                 wrapped = moved(wrapped, *words) | self.widths.wrapped_places(rows)
-                row = update.cursor[0]
-        return {place: WIDTHS for place in own} | {place: WRAPPED for place in wrapped}
+                if self.make.keeps_orphans:
+                    orphans = moved(orphans, *words) | self.widths.orphan_places(moved(wide, *words), rows)
+                wide, row = wide_places(rows), update.cursor[0]
+        found = {place: ORPHAN for place in orphans}
+        return found | {place: WIDTHS for place in own} | {place: WRAPPED for place in wrapped}
 
     def begin(self):
         """Resets the terminals."""

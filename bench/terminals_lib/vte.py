@@ -10,7 +10,7 @@ from windows import QUERY, SECONDS, Server, cells
 class Vte:
     """A terminal of VTE, which is drawn into a picture in memory."""
 
-    repeats, tries, blanks_have_marks, stays_on_wide = True, 1, False, False
+    repeats, tries, blanks_have_marks, stays_on_wide, keeps_orphans = True, 1, False, False, False
 
     @staticmethod
     def is_there():

@@ -78,11 +78,10 @@ class Widths:
 
     def drawn(self, rows, at, col):
         """Returns the places on which the glyph that covers a place is drawn. Before the first column is the end of the
-        row above.
+        row above, and after the last one the beginning of the row below.
         """
-        if col < 0:
-            at, col = at - 1, len(rows[0]) + col
-        if not (0 <= at < len(rows) and col < len(rows[at])):
+        at, col = at + col // len(rows[0]), col % len(rows[0])
+        if not 0 <= at < len(rows):
             return set()
         start = start_of(rows[at], col)
         found = next((it[1:] for it in glyphs_of(rows[at][: start + 2]) if it[0] == start), None)
@@ -118,6 +117,22 @@ class Widths:
                 start = columns if columns > width else 0
                 found |= {it for right in range(2) for it in self.drawn(rows, at + 1, start + right)}
         return found
+
+    def orphan_places(self, wide, rows):
+        """Returns the rest of each row in which a glyph that takes fewer columns in the terminal is printed over the first
+        half of a wide glyph, which the terminal then keeps. `wide` are the places of the wide glyphs before.
+        """
+        found = set()
+        for at, col, glyph, width, marks in self.odd_glyphs(rows):
+            columns = self.effect(glyph, marks)[0]
+            if columns < width and (at, col + width - 1) in wide:
+                found |= {(at, right) for right in range(col + columns, len(rows[at]))}
+        return found
+
+
+def wide_places(rows):
+    """Returns the places of the first halves of wide glyphs."""
+    return {(at, col) for at, row in enumerate(rows) for col, _, width, _ in glyphs_of(row) if width == 2}
 
 
 class Twins:

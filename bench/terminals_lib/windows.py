@@ -116,6 +116,8 @@ class Window:
     repeats, tries, program, blanks_have_marks = True, 3, None, False
     # Whether its cursor is in the first column of a wide glyph at the end of a row, and remains there after a line feed.
     stays_on_wide = False
+    # Whether the first half of a wide glyph whose second half is erased still takes two columns in pictures.
+    keeps_orphans = False
 
     @classmethod
     def is_there(cls):
@@ -232,7 +234,7 @@ class Xterm(Window):
 class St(Window):
     """st, the simple terminal."""
 
-    program, stays_on_wide = "stterm", True
+    program, stays_on_wide, keeps_orphans = "stterm", True, True
 
     def words(self, x, y):
         rows, cols = self.size
