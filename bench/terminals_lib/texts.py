@@ -10,8 +10,6 @@ import tempfile
 KINDS = ("redraw", "diff", "scrolling", "ascii", "any", "portable redraw", "portable diff", "portable scrolling")
 # The outputs that contain REP.
 REPEATING = ("ascii", "any")
-# The outputs that may move rows.
-MOVING = ("scrolling", "ascii", "any", "portable scrolling")
 DEFAULT_LOOK = ("-", "-", 0)
 BOLD, DIM, ITALIC, UNDERLINED, INVERSE = 1, 2, 4, 8, 16
 

@@ -68,7 +68,7 @@ class Widths:
 
     def odd_glyphs(self, rows):
         """Yields the glyphs to which the terminal gives another width, or that change other cells when they are printed:
-        the row, the column, the glyph, and its width.
+        the row, the column, the glyph, its width, and its attributes.
         """
         for at, row in enumerate(rows):
             for col, glyph, width, marks in glyphs_of(row):
@@ -88,9 +88,8 @@ class Widths:
         if not found:
             return {(at, start)}
         glyph, width, marks = found
-        return {(at, start + right) for right in range(width)} | {
-            (at + down, start + right) for down, right in self.effect(glyph, marks)[1]
-        }
+        near = self.effect(glyph, marks)[1] | {(0, right) for right in range(width)}
+        return {(at + down, start + right) for down, right in near}
 
     def odd_places(self, rows):
         """Returns the places of such glyphs, and of those next to them that they change."""
@@ -142,7 +141,8 @@ class Twins:
         """Takes the glyphs to be replaced, each with its width, and the other glyphs."""
         self.twins = {glyph: glyph for glyph in others if len(glyph) > 1}
         for number, (glyph, width) in enumerate(sorted(odd)):
-            self.twins[glyph] = (NARROW, WIDE)[width - 1][number % (len(NARROW), len(WIDE))[width - 1]]
+            pool = (NARROW, WIDE)[width - 1]
+            self.twins[glyph] = pool[number % len(pool)]
         longest = sorted(map(re.escape, self.twins), key=len, reverse=True)
         self.pattern = re.compile("|".join(longest)) if longest else None
 

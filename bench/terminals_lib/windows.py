@@ -24,7 +24,7 @@ X11_FONTS = "/usr/share/fonts/X11/misc"
 FONTCONFIG = "<?xml version='1.0'?><fontconfig><dir>{0}/fonts</dir><cachedir>{0}/cache</cachedir></fontconfig>"
 # Room for 12 windows of up to 50 rows and 160 columns, four in a row.
 WIDTH, HEIGHT, PER_ROW = 6000, 3000, 4
-SECONDS = 20
+SECONDS = 60
 # Foregrounds and backgrounds with which a terminal draws everything anew, one after the other. The pixel in the window's
 # corner, which belongs to no cell, tells which of them it has drawn; if the screen is reversed, it has the foreground.
 COLORS = ((205, 205, 205), (1, 1, 1)), ((204, 204, 204), (0, 0, 0))
@@ -36,7 +36,7 @@ X11_FONTS = "/usr/share/fonts/X11/misc"
 FONTCONFIG = "<?xml version='1.0'?><fontconfig><dir>{0}/fonts</dir><cachedir>{0}/cache</cachedir></fontconfig>"
 # Room for 12 windows of up to 50 rows and 160 columns, four in a row.
 WIDTH, HEIGHT, PER_ROW = 6000, 3000, 4
-SECONDS = 20
+SECONDS = 60
 # Background colors with which a terminal draws everything anew, one after the other. The pixel in the window's corner,
 # which belongs to no cell, tells which of them it has drawn.
 PAPERS = (1, 1, 1), (0, 0, 0)
