@@ -6,12 +6,13 @@ from texts import BOLD, DIM
 from widths import unequal
 
 WIDTHS, WRAPPED, SHIFTED = "own widths", "wrap after own widths", "shifted by own widths"
+SCROLLED = "scroll by own widths"
 PLACE, INTENSITY, WIDE, OTHER = "cursor's place", "bold and dim", "wide glyph", "other"
 LINE_FEED, ORPHAN = "line feed after a wide glyph", "half of a wide glyph"
 # The causes that lie in the terminal, and those that are faults of other output than portable output only.
-OWN, AVOIDED = (WIDTHS, LINE_FEED, ORPHAN), (SHIFTED, WRAPPED)
+OWN, AVOIDED = (WIDTHS, SCROLLED, LINE_FEED, ORPHAN), (SHIFTED, WRAPPED)
 # From the least telling cause of a cell to the most telling one.
-CAUSES = (WIDTHS, ORPHAN, WRAPPED, PLACE, INTENSITY, WIDE, OTHER)
+CAUSES = (WIDTHS, ORPHAN, SCROLLED, WRAPPED, PLACE, INTENSITY, WIDE, OTHER)
 
 
 def differences(one, two):
@@ -55,7 +56,7 @@ def cause_of(places, screen, odd, needs_odd):
     another width is replaced by one on whose width terminals agree.
     """
     cause = max((cause_in(screen, place, odd) for place in places), key=CAUSES.index)
-    is_odd = cause in (WIDTHS, ORPHAN, WRAPPED)
+    is_odd = cause in (WIDTHS, ORPHAN, SCROLLED, WRAPPED)
     if needs_odd:
         return cause if is_odd else SHIFTED
     # Without that, such glyphs explain nothing.

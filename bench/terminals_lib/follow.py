@@ -4,7 +4,7 @@ import dataclasses
 import os
 import time
 
-from causes import LINE_FEED, ORPHAN, WIDTHS, WRAPPED, cause_of, differences, is_line_feed
+from causes import LINE_FEED, ORPHAN, SCROLLED, WIDTHS, WRAPPED, cause_of, differences, is_line_feed
 from moved import moved
 from painting import painted
 from texts import KINDS, REPEATING, is_redraw, pair_of_updates, redraw_of, updates
@@ -91,16 +91,20 @@ class Terminals:
         was compared, where the outputs have moved them.
         """
         own, wrapped, orphans, wide, row = set(), set(), set(), set(), 0
-        for update in past[1][-1:] if is_redraw(kind) else (past[0], *past[1]):
-            if update:
-                rows, words = update.rows, (update.outputs[kind], row, len(update.rows))
-                own = moved(own, *words) | self.widths.odd_places(rows)
-                wrapped = moved(wrapped, *words) | self.widths.wrapped_places(rows)
-                if self.make.keeps_orphans:
-                    orphans = moved(orphans, *words) | self.widths.orphan_places(moved(wide, *words), rows)
-                wide, row = wide_places(rows), update.cursor[0]
-        found = {place: ORPHAN for place in orphans}
-        return found | {place: WIDTHS for place in own} | {place: WRAPPED for place in wrapped}
+        screens = past[1][-1:] if is_redraw(kind) else [it for it in (past[0], *past[1]) if it]
+        for update in screens:
+            rows, words = update.rows, (update.outputs[kind], row, len(update.rows))
+            own = moved(own, *words) | self.widths.odd_places(rows)
+            wrapped = moved(wrapped, *words) | self.widths.wrapped_places(rows)
+            if self.make.keeps_orphans:
+                orphans = moved(orphans, *words) | self.widths.orphan_places(moved(wide, *words), rows)
+            wide, row = wide_places(rows), update.cursor[0]
+        found = {}
+        if any(self.widths.scrolls(update.rows) for update in screens):
+            found = {(row, col): SCROLLED for row in range(self.size[0]) for col in range(self.size[1])}
+        for cause, places in (ORPHAN, orphans), (WIDTHS, own), (WRAPPED, wrapped):
+            found |= {place: cause for place in places}
+        return found
 
     def begin(self):
         """Resets the terminals."""

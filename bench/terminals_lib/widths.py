@@ -128,6 +128,15 @@ class Widths:
                 found |= {(at, right) for right in range(col + columns, len(rows[at]))}
         return found
 
+    def scrolls(self, rows):
+        """Returns whether a glyph is printed beyond the end of the last row, so that the terminal scrolls."""
+        for at, col, glyph, width, marks in self.odd_glyphs(rows):
+            columns, changed = self.effect(glyph, marks)
+            end = col + max(columns, *(right + 1 for _, right in changed), 0)
+            if at == len(rows) - 1 and end > len(rows[at]):
+                return True
+        return False
+
 
 def wide_places(rows):
     """Returns the places of the first halves of wide glyphs."""
