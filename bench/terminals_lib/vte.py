@@ -19,6 +19,7 @@ class Vte:
 
             gi.require_version("Gtk", "3.0")
             gi.require_version("Vte", "2.91")
+            gi.require_foreign("cairo")
         except (ImportError, ValueError):
             return False
         return True

@@ -39,7 +39,7 @@ class Widths:
         self.terminal, self.known, self.blank = make(*SIZE), {}, None
 
     def cursor_after(self, text):
-        """Returns where the cursor is after a text at `AT`, behind a letter on a blank screen."""
+        """Returns where the cursor is after a text at `AT`, which follows a letter on a blank screen."""
         row, col = AT
         self.terminal.read(f"\x1bc\x1b[?25h\x1b[{row + 1};{col}Hx\x1b[{row + 1};{col + 1}H{text}".encode())
         return self.terminal.cursor()
