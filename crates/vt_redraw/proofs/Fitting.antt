@@ -19,7 +19,7 @@ use Rattle.vt_redraw.specs.Script.{Linked, Scripted, blank_run, cells_written, e
 use Rattle.vt_redraw.specs.Script.{placed_op, after_last_glyph, break_ops, first_written, is_at, last_column}
 use Rattle.vt_redraw.specs.Script.{last_glyph, no_link, no_ops, ops_then_link, pen_after, row_break, row_link}
 use Rattle.vt_redraw.specs.Script.{starts_other, wrapped_after_erasure, wrapped_after_glyph, move_ops, attr_ops_in}
-use Rattle.vt_redraw.specs.Script.{resets, back_op, change_ops, erased_count}
+use Rattle.vt_redraw.specs.Script.{resets, back_op, change_ops, erased_count, wrap_ops}
 use Rattle.vt_redraw.specs.Redraw.{link_of, row_written, rows_below, rows_written}
 use Rattle.vt_redraw.specs.declared.pen.Pen.{Pen}
 use Rattle.vt_redraw.specs.Fits.{IsDrawn, IsDrawnText, Fits}
@@ -316,6 +316,11 @@ pub record FitsLinked (j : Linked) : Type 0 where
   pub ops : AllFit j.ops
   pub attrs : FitsAttrs j.pen.attrs
 
+wrap_fits : (r : ℕ) (pen : Pen) → r < 65535 → AllFit (wrap_ops r pen)
+wrap_fits r pen h =
+    cond_both pen.is_shifted (Print (0x20 ∷ []) ∷ MoveTo r 0 ∷ []) [] AllFit
+    (λ _. (space_fits, ((h, omega arith), tt))) (λ _. tt)
+
 pub first_fits : (r : ℕ) (pen : Pen) (flag : Bool) (xs ys : List CellValue) → r < 65535 →
     FitsAttrs pen.attrs → AllByRecursion IsFit xs → FitsLinked (first_written r pen flag xs ys)
 first_fits r pen flag [] ys h was fit = record { ops = tt; attrs = was }
@@ -329,8 +334,9 @@ first_fits r pen flag (blank a ∷ xs) (y ∷ ys) h was fit = record {
 }
 first_fits r pen flag (glyph text wide a ∷ xs) (y ∷ ys) h was fit = record {
   ops =
-      fits_append (attr_ops_in pen.form pen.attrs a) (Print text ∷ [])
-      (changing_fits pen.form pen.attrs a was fit.0.1) (printable_text text wide fit.0.0, tt);
+      fits_append (attr_ops_in pen.form pen.attrs a) (wrap_ops r pen ++ Print text ∷ [])
+      (changing_fits pen.form pen.attrs a was fit.0.1)
+      (fits_append (wrap_ops r pen) (Print text ∷ []) (wrap_fits r pen h) (printable_text text wide fit.0.0, tt));
   attrs = fit.0.1;
 }
 

@@ -4,33 +4,32 @@ use Rattle.std.proofs.Common.{◌++◌, length, drop, Some, inl, inr, refl, sym,
 use Rattle.std.proofs.lemmas.Bool.{cond_both}
 use Rattle.std.proofs.lemmas.List.{length-append}
 use Rattle.vt_cells.specs.Cell.{CellValue, blank, glyph, right_half, default_blank, is_wide, is_right_half}
-use Rattle.vt_cells.specs.Op.{Op, Print, EraseChars, MoveTo}
+use Rattle.vt_cells.specs.Op.{Op, Print, EraseChars}
 use Rattle.vt_cells.specs.Attrs.{Attrs}
 use Rattle.vt_rows.specs.Cells.{at, cells_after_cut}
 use Rattle.vt_rows.specs.Row.{RowValue}
 use Rattle.vt_grid.specs.Canvas.{Canvas}
-use Rattle.vt_cells.specs.Glyph.{glyph_columns}
 use Rattle.vt_redraw.specs.Script.{pen_at, pen_in, attr_ops_in, back_op}
 use Rattle.vt_redraw.specs.declared.form.Form.{Form}
 use Rattle.vt_redraw.specs.declared.pen.Pen.{Pen}
-use Rattle.vt_redraw.proofs.Edits.{Reads, Within, changing_draws, back_draws, row_of, mid, two, two_mid, orphan}
-use Rattle.vt_redraw.proofs.Edits.{chars_erased, Spot, with_glyph, glyph_flag}
-use Rattle.vt_redraw.specs.Script.{Linked, first_written, is_nil, is_torn, no_link, wrapped_after_glyph}
+use Rattle.vt_redraw.proofs.Edits.{Reads, Within, row_of, mid, two, two_mid, orphan}
+use Rattle.vt_redraw.proofs.Edits.{with_glyph}
+use Rattle.vt_redraw.specs.Script.{Linked, first_written, is_nil, no_link, wrapped_after_glyph}
 use Rattle.vt_redraw.specs.Script.{after_last_glyph, is_at, last_column, ops_then_link, row_link, starts_other}
-use Rattle.vt_redraw.proofs.Halves.{Paired, paired_loose, loose_step, opened_paired, opened_twice, ends, kept, Sound}
-use Rattle.vt_redraw.proofs.Halves.{sound_kept, flag_step}
-use Rattle.vt_redraw.proofs.Texts.{Prints, no_tear, space_prints}
-use Rattle.vt_redraw.proofs.Touched.{DrawsIn, in_then, in_to, quiet_in, changing_quiet, changes_at, back_quiet}
-use Rattle.vt_redraw.proofs.Touched.{MayGlyph, print_in, print_in_wraps}
+use Rattle.vt_redraw.proofs.Halves.{Paired, paired_loose, loose_step, opened_paired, ends, Sound}
+use Rattle.vt_redraw.proofs.Texts.{space_prints}
+use Rattle.vt_redraw.proofs.Touched.{DrawsIn, in_then, in_to}
 use Rattle.vt_redraw.proofs.Row.{Lets, torn_may, starts_none}
 use Rattle.vt_redraw.proofs.Places.{PrintsCells, shown, Ready}
-use Rattle.vt_redraw.proofs.Link.{erase_touches, going_after_draws}
-use Rattle.vt_redraw.proofs.Ranges.{no_tail, Any}
+use Rattle.vt_redraw.proofs.Link.{going_after_draws}
+use Rattle.vt_redraw.proofs.Ranges.{no_tail}
 use Rattle.vt_redraw.proofs.Fitting.{after_form}
-use Rattle.vt_redraw.proofs.PortableLinks.{after_portably, first_glyph_portably, unspaced_portably}
+use Rattle.vt_redraw.proofs.PortableLinks.{after_portably}
 use Rattle.vt_redraw.proofs.PortableParts.{Portably, nothing_portably, portably_both}
+use Rattle.vt_redraw.proofs.Wrapping.{blank_portably, first_blank, first_glyph, first_sound, glyph_sound, linked_glyph}
+use Rattle.vt_redraw.proofs.Wrapping.{linked_ops, linked_portably}
 use Rattle.vt_redraw.specs.Script.{shifts}
-use Rattle.vt_redraw.specs.declared.form.Form.TheVariants.{Fixed, Portable}
+use Rattle.vt_redraw.specs.declared.form.Form.TheVariants.{Portable}
 
 -- ---- the first cell, at a pending wrap
 
@@ -48,146 +47,6 @@ pub record Joins (May : ℕ → ℕ → Type 0) (form : Form) (was : Bool) (j : 
   pub draws : DrawsIn May j.ops start (two base done below above to (shown [] torn j.settled xs ys) j.flag j.pen)
   pub ready : Ready xs ys [] torn j.settled j.flag
   pub within : Within j.pen height base.page.width
-
--- With a wrap pending, a glyph is printed at the beginning of the next row.
-first_glyph : (May : ℕ → ℕ → Type 0) (form : Form) (base : Canvas) (done below : List RowValue) (above : List
-    CellValue) (on : Bool)
-    (y : CellValue) (ys : List CellValue) (flag : Bool) (r : ℕ) (b : Attrs) (text : List ℕ) (wide : Bool) (a : Attrs) →
-    length done ≡ r →
-    base.page.bottom + 1 ≡ length done + suc (suc (length below)) → ends above ≡ false →
-    Paired (y ∷ ys) → Sound flag (y ∷ ys) → glyph_columns wide ≤ base.page.width →
-    Prints base.page.width text wide → MayGlyph May (r + 1) 0 wide ys →
-    DrawsIn May (attr_ops_in form b a ++ Print text ∷ [])
-    (two base done below above on (y ∷ ys) flag (pen_at r base.page.width b))
-    (mid base (done ++ row_of above true ∷ []) below (with_glyph [] text wide a ys)
-    (wrapped_after_glyph flag wide (drop 1 ys)) (pen_at (r + 1) (0 + glyph_columns wide) a))
-first_glyph May form base done below above on y ys flag r b text wide a e bottom full paired sound fits prints may =
-    let top = done ++ row_of above true ∷ [] in
-    let n : length top ≡ r + 1 = let l = length-append done (row_of above true ∷ []) in omega arith in
-    let whole = opened_paired default_blank (y ∷ ys) paired in
-    let goal = mid base top below (with_glyph [] text wide a ys)
-    (wrapped_after_glyph flag wide (drop 1 ys)) (pen_at (r + 1) (0 + glyph_columns wide) a) in
-    let spot : Spot base top [] default_blank y ys flag (r + 1) 0 wide =
-    record { row = n; col = refl; fits = omega arith; front = tt; sound = subst (Sound flag) (sym whole) sound } in
-    let there : two base done below above (not (ends above)) (y ∷ ys) flag (pen_at (r + 1) 0 a)
-    ≡ mid base top below (cells_after_cut default_blank (y ∷ ys)) flag (pen_at (r + 1) 0 a) =
-    ap (λ (t : Bool). two base done below above (not t) (y ∷ ys) flag (pen_at (r + 1) 0 a)) full
-    ∙ (two_mid base done below above true (y ∷ ys) flag (pen_at (r + 1) 0 a)
-    ∙ ap (λ (z : List CellValue). mid base top below z flag (pen_at (r + 1) 0 a)) (sym whole)) in
-    let d1 = two base done below above on (y ∷ ys) flag (pen_at r base.page.width a) in
-    let d0 = two base done below above on (y ∷ ys) flag (pen_at r base.page.width b) in
-    in_then May (attr_ops_in form b a) (Print text ∷ []) d0 d1 goal
-    (quiet_in May (attr_ops_in form b a) d0 d1 (changing_quiet form b a)
-    (changing_draws form base (done ++ row_of above on ∷ row_of (y ∷ ys) flag ∷ below) (pen_at r base.page.width b) a))
-    (print_in_wraps May base done below above on (y ∷ ys) flag r a text wide goal e bottom prints
-    (subst (λ (c : Canvas). DrawsIn May (Print text ∷ []) c goal) (sym there)
-    (print_in May base top below [] default_blank y ys flag (r + 1) 0 text wide a prints spot may)))
-
-first_flag : (f n t : Bool) → (f && not ((n && true) || (t && false))) ≡ (f && not n)
-first_flag f n t = grind (arith)
-
--- With a wrap pending, a space is printed at the beginning of the next row and erased again.
-pub first_blank : (May : ℕ → ℕ → Type 0) (form : Form) (base : Canvas) (done below : List RowValue)
-    (y : CellValue) (ys : List CellValue) (flag : Bool) (r : ℕ) (a : Attrs) →
-    base.page.origin ≡ false → length done ≡ r → 0 < base.page.width → Paired (y ∷ ys) → Sound flag (y ∷ ys) → May r 0 →
-    DrawsIn May (back_op form r 0 ∷ EraseChars 1 ∷ [])
-    (mid base done below (with_glyph [] (0x20 ∷ []) false a ys) (wrapped_after_glyph flag false (drop 1 ys)) (pen_at r
-    1 a))
-    (mid base done below (blank a ∷ cells_after_cut (orphan false a) ys) (flag && not (is_nil ys)) (pen_at r 0 a))
-first_blank May form base done below y ys flag r a o e pos paired sound may =
-    let row = λ (z : List CellValue). blank a ∷ z in
-    let pen = pen_at r 0 a in
-    let whole = opened_paired default_blank (y ∷ ys) paired in
-    let spaced = with_glyph [] (0x20 ∷ []) false a ys in
-    let now = wrapped_after_glyph flag false (drop 1 ys) in
-    let start = mid base done below spaced now (pen_at r 1 a) in
-    let middle = mid base done below spaced now pen in
-    let goal = mid base done below (row (cells_after_cut (orphan false a) ys)) (flag && not (is_nil ys)) pen in
-    let size = length-append done (row_of spaced now ∷ below) in
-    in_then May (back_op form r 0 ∷ []) (EraseChars 1 ∷ []) start middle
-    goal (quiet_in May (back_op form r 0 ∷ []) start middle (back_quiet form r 0)
-    (back_draws form base (done ++ row_of spaced now ∷ below) r 0 a o (omega arith) pos))
-    (record {
-      draws = chars_erased base done below [] spaced now r 0 0 a e refl (omega arith) tt
-          ∙ (ap (λ (f : Bool). Some
-          (mid base done below (row (cells_after_cut default_blank (cells_after_cut (orphan false a) ys)))
-          (kept f (row (cells_after_cut default_blank (cells_after_cut (orphan false a) ys)))) pen))
-          (no_tear flag (is_torn (drop 1 ys)))
-          ∙ (ap (λ (z : List CellValue). Some (mid base done below (row z) (kept flag (row z)) pen))
-          (opened_twice default_blank (orphan false a) ys refl)
-          ∙ ap (λ (f : Bool). Some (mid base done below (row (cells_after_cut (orphan false a) ys)) f pen))
-          (first_kept y ys flag a whole sound)));
-      touches = erase_touches May middle 0 1 (omega arith) refl
-          (changes_at May base done below [] spaced now r 0 1 0 a e refl tt
-          (λ k low high. let z : 0 ≡ k = omega arith in subst (May r) z may)
-          (λ t. let n = not_right a ys in absurd (cc)));
-    })
-  where
-    first_kept : (y : CellValue) (ys : List CellValue) (flag : Bool) (a : Attrs) →
-        cells_after_cut default_blank (y ∷ ys) ≡ y ∷ ys → Sound flag (y ∷ ys) →
-        kept flag (blank a ∷ cells_after_cut (orphan false a) ys) ≡ (flag && not (is_nil ys))
-    first_kept y ys flag a whole sound =
-        flag_step [] (blank a ∷ []) y ys (orphan false a) default_blank
-        0 flag true refl (subst (Sound flag) (sym whole) sound)
-        ∙ first_flag flag (is_nil ys) (is_torn ys)
-
-    not_right : (a : Attrs) (ys : List CellValue) → is_right_half (at (cells_after_cut (orphan false a) ys) 0) ≡ false
-    not_right a [] = refl
-    not_right a (blank b ∷ ys) = refl
-    not_right a (glyph text wide b ∷ ys) = refl
-    not_right a (right_half ∷ ys) = refl
-
-pub first_sound : (y : CellValue) (ys : List CellValue) (flag : Bool) (a : Attrs) → Paired (y ∷ ys) →
-    Sound flag (y ∷ ys) → Sound (flag && not (is_nil ys)) (blank a ∷ cells_after_cut (orphan false a) ys)
-first_sound y ys flag a paired sound =
-    sound_kept flag (blank a ∷ cells_after_cut (orphan false a) ys) (flag && not (is_nil ys))
-    (flag_step [] (blank a ∷ []) y ys (orphan false a) default_blank 0 flag true refl
-    (subst (Sound flag) (sym (opened_paired default_blank (y ∷ ys) paired)) sound)
-    ∙ first_flag flag (is_nil ys) (is_torn ys))
-
-pub glyph_sound : (y : CellValue) (ys : List CellValue) (flag : Bool) (text : List ℕ) (wide : Bool) (a : Attrs) →
-    Paired (y ∷ ys) → Sound flag (y ∷ ys) → Sound (wrapped_after_glyph flag wide (drop 1 ys)) (with_glyph [] text wide
-    a ys)
-glyph_sound y ys flag text wide a paired sound =
-    sound_kept flag (with_glyph [] text wide a ys) (wrapped_after_glyph flag wide (drop 1 ys))
-    (glyph_flag [] default_blank y ys flag text wide a
-    (subst (Sound flag) (sym (opened_paired default_blank (y ∷ ys) paired)) sound))
-
--- In the portable form, the operations that draw a blank at the beginning of a row are portable.
-blank_portably : (form : Form) → form ≡ Portable → (base : Canvas) (done below : List RowValue) (above : List CellValue)
-    (on : Bool) (y : CellValue) (ys : List CellValue) (flag : Bool) (r : ℕ) (b a : Attrs) (was : Bool) →
-    base.page.origin ≡ false → length done ≡ r → base.page.bottom + 1 ≡ length done + suc (suc (length below)) →
-    0 < base.page.width → ends above ≡ false → Paired (y ∷ ys) → Sound flag (y ∷ ys) →
-    Portably (attr_ops_in form b a ++ Print (0x20 ∷ []) ∷ back_op form (r + 1) 0 ∷ EraseChars 1 ∷ []) was
-    (two base done below above on (y ∷ ys) flag (pen_at r base.page.width b)) false
-    (two base done below above true (blank a ∷ cells_after_cut (orphan false a) ys) (flag && not (is_nil ys)) (pen_at
-    (r + 1) 0 a))
-blank_portably Fixed is base done below above on y ys flag r b a was origin e bottom pos full k sound = absurd cc
-blank_portably Portable is base done below above on y ys flag r b a was origin e bottom pos full k sound =
-    let top = done ++ row_of above true ∷ [] in
-    let n : length top ≡ r + 1 = let l = length-append done (row_of above true ∷ []) in omega (arith, l, e) in
-    let space : List ℕ = 0x20 ∷ [] in
-    let attrs = attr_ops_in Portable b a in
-    let start = two base done below above on (y ∷ ys) flag (pen_at r base.page.width b) in
-    let now = wrapped_after_glyph flag false (drop 1 ys) in
-    let spaced = mid base top below (with_glyph [] space false a ys) now (pen_at (r + 1) 1 a) in
-    let goal = two base done below above true (blank a ∷ cells_after_cut (orphan false a) ys) (flag && not (is_nil ys))
-    (pen_at (r + 1) 0 a) in
-    let prints = space_prints base.page.width pos in
-    subst (λ (ops : List Op). Portably ops was start false goal)
-    (append_assoc attrs (Print space ∷ []) (MoveTo (r + 1) 0 ∷ EraseChars 1 ∷ []))
-    (portably_both (attrs ++ Print space ∷ []) (MoveTo (r + 1) 0 ∷ EraseChars 1 ∷ []) was (was || shifts Portable
-    space) false
-    start spaced goal
-    (first_glyph Any Portable base done below above on y ys flag r b space false a e bottom full k sound (omega (
-      arith,
-      pos,
-    ))
-    prints (record { first = tt; second = λ _. tt; torn = λ _. tt })).draws
-    (first_glyph_portably Portable refl base done below above on y ys flag r b space false a was e bottom full k sound
-    (omega (arith, pos)) prints)
-    (unspaced_portably base top below ys now (r + 1) a (was || shifts Portable space) goal n origin
-    (omega (arith, n)) pos refl refl))
 
 -- With a wrap pending and the current attributes `b`, the first cell of a row is drawn.
 pub first_draws : (May : ℕ → ℕ → Type 0) (form : Form) (shifted : Bool) (base : Canvas) (done below : List RowValue)
@@ -212,15 +71,14 @@ first_draws May form shifted base done below above (glyph text false a ∷ xs) (
     record {
       torn = orphan false a;
       whole = refl;
-      portable = λ is. subst (λ (k : Canvas). Portably (attr_ops_in form b a ++ Print text ∷ []) shifted
-          (two base done below above on (y ∷ ys) flag (pen_at r base.page.width b)) (shifted || shifts form text) k)
+      portable = λ is. subst (λ (k : Canvas). Portably (linked_ops form shifted base r b text a) shifted
+          (two base done below above on (y ∷ ys) flag (pen_at r base.page.width b)) (shifts form text) k)
           (sym (two_mid base done below above true (with_glyph [] text false a ys) now (pen_at (r + 1) 1 a)))
-          (first_glyph_portably form is base done below above on y ys flag r b text false a shifted e (omega arith)
-          full k sound
-          (omega arith) prints.0);
-      draws = in_to May (attr_ops_in form b a ++ Print text ∷ []) _ _ _
-          (first_glyph May form base done below above on y ys flag r b text
-          false a e (omega arith) full k sound (omega arith) prints.0
+          (linked_portably form is shifted base done below above on y ys flag r b text false a origin e (omega arith)
+          full k sound (omega arith) prints.0);
+      draws = in_to May (linked_ops form shifted base r b text a) _ _ _
+          (linked_glyph May form shifted base done below above on y ys flag r b text
+          false a origin e (omega arith) full k sound (omega arith) prints.0
           (record {
             first = begin;
             second = λ t. absurd (cc);
@@ -299,16 +157,14 @@ first_draws May form shifted base done below above (glyph text true a ∷ right_
     record {
       torn = orphan true a;
       whole = refl;
-      portable = λ is. subst (λ (k : Canvas). Portably (attr_ops_in form b a ++ Print text ∷ []) shifted
-          (two base done below above on (y ∷ y2 ∷ ys) flag (pen_at r base.page.width b)) (shifted || shifts form text)
-          k)
+      portable = λ is. subst (λ (k : Canvas). Portably (linked_ops form shifted base r b text a) shifted
+          (two base done below above on (y ∷ y2 ∷ ys) flag (pen_at r base.page.width b)) (shifts form text) k)
           (sym (two_mid base done below above true (with_glyph [] text true a (y2 ∷ ys)) now (pen_at (r + 1) 2 a)))
-          (first_glyph_portably form is base done below above on y (y2 ∷ ys) flag r b text true a shifted e (omega
-          arith) full k
-          sound (omega arith) prints.0);
-      draws = in_to May (attr_ops_in form b a ++ Print text ∷ []) _ _ _
-          (first_glyph May form base done below above on y (y2 ∷ ys) flag r b
-          text true a e (omega arith) full k sound (omega arith) prints.0
+          (linked_portably form is shifted base done below above on y (y2 ∷ ys) flag r b text true a origin e
+          (omega arith) full k sound (omega arith) prints.0);
+      draws = in_to May (linked_ops form shifted base r b text a) _ _ _
+          (linked_glyph May form shifted base done below above on y (y2 ∷ ys) flag r b
+          text true a origin e (omega arith) full k sound (omega arith) prints.0
           (record {
             first = begin;
             second = λ _. second refl;

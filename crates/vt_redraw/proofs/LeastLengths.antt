@@ -27,6 +27,7 @@ use Rattle.vt_redraw.specs.Redraw.{blank_like, cursor_written, link_of, pen_of, 
 use Rattle.vt_redraw.specs.Redraw.{rows_written, script_in, redraw_in}
 use Rattle.vt_redraw.specs.Script.{Linked, Scripted, after_last_glyph, blank_run, cells_written, erase_run}
 use Rattle.vt_redraw.specs.Script.{first_written, is_at, is_blank_of, move_ops, no_link, ops_then, ops_then_link}
+use Rattle.vt_redraw.specs.Script.{wrap_ops}
 use Rattle.vt_redraw.specs.Script.{placed_op, row_break, row_link, starts_other, wrapped_after_erasure, wrapped_after_glyph}
 use Rattle.vt_redraw.proofs.Halves.{Loose, Paired, loose_step, paired_loose, paired_of, blank_of_is}
 use Rattle.vt_redraw.specs.Script.{pen_in, change_ops, resets, pen_past}
@@ -81,6 +82,17 @@ changed_op_least form was new op ops =
     let both = bytes_both (attr_ops_in form was new) (op ∷ ops) in
     let more = length-append (bytes_of op) (bytes_of_all ops) in
     omega (arith, change, both, more)
+
+-- The output for a glyph at a pending wrap is at least as long as the change of attributes and the glyph.
+wrapped_least : (r : ℕ) (pen : Pen) (new : Attrs) (op : Op) →
+    change_least (Some pen.attrs) new + length (bytes_of op)
+    ≤ bytes_len (attr_ops_in pen.form pen.attrs new ++ (wrap_ops r pen ++ op ∷ []))
+wrapped_least r pen new op =
+    let least = changed_op_least pen.form pen.attrs new op [] in
+    let near = bytes_both (attr_ops_in pen.form pen.attrs new) (op ∷ []) in
+    let far = bytes_both (attr_ops_in pen.form pen.attrs new) (wrap_ops r pen ++ op ∷ []) in
+    let both = bytes_both (wrap_ops r pen) (op ∷ []) in
+    omega (arith, least, near, far, both)
 
 placed_least : (pen : Pen) (row col : ℕ) (attrs : Attrs) (op : Op) →
     change_least (Some pen.attrs) attrs + length (bytes_of op) ≤ bytes_len (placed_op pen row col attrs op)
@@ -218,10 +230,10 @@ first_least r pen flag (blank a ∷ xs) (y ∷ ys) h =
     (λ (n : ℕ). n ≤ bytes_len (first_written r pen flag (blank a ∷ xs) (y ∷ ys)).ops + drawn_least (Some a) xs)
     (λ _. omega (arith, none)) (λ _. omega arith)
 first_least r pen flag (glyph text false a ∷ xs) (y ∷ ys) h =
-    let least = changed_op_least pen.form pen.attrs a (Print text) [] in
+    let least = wrapped_least r pen a (Print text) in
     omega (arith, least)
 first_least r pen flag (glyph text true a ∷ right_half ∷ xs) (y ∷ ys) h =
-    let least = changed_op_least pen.form pen.attrs a (Print text) [] in
+    let least = wrapped_least r pen a (Print text) in
     omega (arith, least)
 first_least r pen flag (glyph text true a ∷ []) (y ∷ ys) h = absurd h
 first_least r pen flag (glyph text true a ∷ blank b ∷ xs) (y ∷ ys) h = absurd h

@@ -12,6 +12,7 @@ pub mod Places
 pub mod Row
 pub mod Link
 pub mod Ranges
+pub mod Wrapping
 pub mod Joining
 pub mod Rows
 -- Pictures

@@ -1,6 +1,6 @@
 -- In the portable form, printing the last glyph of a row again is portable, and so is the first cell of the next row.
 use Rattle.std.proofs.Common.{◌≡◌, ℕ, suc, ◌+◌, ◌≤◌, ◌<◌, ◌&&◌, ◌||◌, not, Bool, true, false, List, [], ◌∷◌, ◌++◌}
-use Rattle.std.proofs.Common.{length, drop, Some, inr, refl, sym, ap, ◌∙◌, subst, arith}
+use Rattle.std.proofs.Common.{length, drop, Some, inl, inr, ◌⊎◌, ⊎_elim, ◌==◌, refl, sym, ap, ◌∙◌, subst, arith}
 use Rattle.std.specs.Prelude.{chars}
 use Rattle.std.specs.Char.{encode_utf8}
 use Rattle.std.proofs.lemmas.Bool.{cond_both}
@@ -78,16 +78,31 @@ first_printed base done below above on y ys flag r a first wide e bottom full pa
     ∙ (ap (drawn_char first) there
     ∙ first_drawn base top below [] default_blank y ys flag (r + 1) 0 first wide a columns at_spot))
 
--- A glyph that is printed while a wrap is pending is portable.
+-- A character may be printed while a wrap is pending if terminals agree on the cursor's position, or if it is a space.
+may_wrap : (c : ℕ) (doubts : Doubts) → doubts.wrap ≡ Pending → (doubts.is_shifted ≡ false) ⊎ (c ≡ 0x20) →
+    may_print c doubts.wrap doubts.is_shifted ≡ true
+may_wrap c doubts pending (inl place) =
+    ap (λ (w : Wrap). may_print c w doubts.is_shifted) pending ∙ ap (λ (b : Bool). not b || (c == 0x20)) place
+may_wrap c doubts pending (inr space) =
+    ap (λ (w : Wrap). may_print c w doubts.is_shifted) pending
+    ∙ (ap (λ (x : ℕ). not doubts.is_shifted || (x == 0x20)) space ∙ or_true (not doubts.is_shifted))
+  where
+    or_true : (b : Bool) → (b || true) ≡ true
+    or_true true = refl
+    or_true false = refl
+
+-- A glyph that is printed while a wrap is pending is portable if terminals agree on the cursor's position, or if it is a
+-- space.
 pub wrapping_portably : (base : Canvas) (done below : List RowValue) (above : List CellValue) (on : Bool) (y :
     CellValue)
     (ys : List CellValue) (flag : Bool) (r : ℕ) (text : List ℕ) (wide : Bool) (a : Attrs) (was : Bool) →
     length done ≡ r → base.page.bottom + 1 ≡ length done + suc (suc (length below)) → ends above ≡ false →
-    Paired (y ∷ ys) → Sound flag (y ∷ ys) → glyph_columns wide ≤ base.page.width → Prints base.page.width text wide →
+    Paired (y ∷ ys) → Sound flag (y ∷ ys) → glyph_columns wide ≤ base.page.width →
+    (prints : Prints base.page.width text wide) → (was ≡ false) ⊎ (prints.first ≡ 0x20) →
     Portably (Print text ∷ []) was (waiting base done below above on (y ∷ ys) flag r a) (was || shifts Portable text)
     (begun base done below above (with_glyph [] text wide a ys) (wrapped_after_glyph flag wide (drop 1 ys)) r
     (0 + glyph_columns wide) a)
-wrapping_portably base done below above on y ys flag r text wide a was e bottom full paired sound fits prints doubts
+wrapping_portably base done below above on y ys flag r text wide a was e bottom full paired sound fits prints safe doubts
     known =
     let top = done ++ row_of above true ∷ [] in
     let start = waiting base done below above on (y ∷ ys) flag r a in
@@ -108,6 +123,7 @@ wrapping_portably base done below above on y ys flag r text wide a was e bottom 
     let same = first_printed base done below above on y ys flag r a prints.first prints.start e bottom full paired
     prints.columns (omega (arith, le, fits)) small in
     let pending = is_pending base done below above on (y ∷ ys) flag r a was doubts e full known in
+    let may = may_wrap prints.first doubts pending (⊎_elim (λ f. inl (known.place f)) (λ s. inr s) safe) in
     let later = doubts_after (Graphic prints.first) doubts start in
     let joined = subst (AreJoined prints.marks) (sym same)
     (marks_join prints.marks base top below [] default_blank y ys flag (r + 1) 0 (encode_utf8 prints.first)
@@ -121,7 +137,7 @@ wrapping_portably base done below above on y ys flag r text wide a was e bottom 
     text later prints.grows at_spot (ap (λ (k : Canvas). wrap_at k.page.column base.page.width) same)) in
     record {
       left = doubts_after_text (chars text) doubts start;
-      portable = (by_width prints.start prints.columns (omega (arith, le, fits)) pending joined, λ after f. tt);
+      portable = (by_width prints.start prints.columns (omega (arith, le, fits)) may joined, λ after f. tt);
       leaves = λ after f. refl;
       known = exact_known (was || shifts Portable text) (doubts_after_text (chars text) doubts start) goal.page wrap
           (λ f. let both = neither was (shifts Portable text) f in
@@ -133,17 +149,15 @@ wrapping_portably base done below above on y ys flag r text wide a was e bottom 
     neither true b f = absurd cc
 
     by_width : (start : Bool) → columns_of prints.first ≡ Some (glyph_columns start) →
-        glyph_columns start ≤ base.page.width → doubts.wrap ≡ Pending →
+        glyph_columns start ≤ base.page.width → may_print prints.first doubts.wrap doubts.is_shifted ≡ true →
         AreJoined prints.marks (canvas_after_print prints.first (waiting base done below above on (y ∷ ys) flag r a)) →
         IsPortableOp (Print text) doubts (waiting base done below above on (y ∷ ys) flag r a)
-    by_width false columns room pending joined =
+    by_width false columns room may joined =
         glyph_portable text prints.first prints.marks 0 doubts (waiting base done below above on (y ∷ ys) flag r a)
-        prints.is
-        columns (ap (λ (w : Wrap). may_print w doubts.is_shifted) pending) (inr (refl, room)) joined
-    by_width true columns room pending joined =
+        prints.is columns may (inr (refl, room)) joined
+    by_width true columns room may joined =
         glyph_portable text prints.first prints.marks 1 doubts (waiting base done below above on (y ∷ ys) flag r a)
-        prints.is
-        columns (ap (λ (w : Wrap). may_print w doubts.is_shifted) pending) (inr (refl, room)) joined
+        prints.is columns may (inr (refl, room)) joined
 
 -- ---- the first cell of a row
 
@@ -153,6 +167,16 @@ after_orphan q [] f = refl
 after_orphan q (blank b ∷ ys) f = refl
 after_orphan q (glyph text wide b ∷ ys) f = refl
 after_orphan q (right_half ∷ ys) f = f
+
+-- A move to the first column of a row makes terminals agree on the position.
+pub back_portably : (r : ℕ) (was : Bool) (start goal : Canvas) → goal.page.column ≡ 0 → 0 < goal.page.width →
+    Portably (MoveTo r 0 ∷ []) was start false goal
+back_portably r was start goal col pos doubts known = record {
+  left = no_doubts;
+  portable = (tt, λ after f. tt);
+  leaves = λ after f. refl;
+  known = placed_known false no_doubts goal.page (record { wrap = refl; place = refl }) (omega (arith, col, pos));
+}
 
 -- The space that was printed in the first column is erased.
 pub unspaced_portably : (base : Canvas) (done below : List RowValue) (ys : List CellValue) (flag : Bool) (r : ℕ) (a :
@@ -173,12 +197,7 @@ unspaced_portably base done below ys flag r a was goal e origin inside pos col w
     ap (λ (row : RowValue). is_right_half (at row.cells 1)) row ∙ after_orphan (orphan false a) ys refl in
     portably_both (MoveTo r 0 ∷ []) (EraseChars 1 ∷ []) was false false start middle goal
     (back_draws Portable base (done ++ row_of spaced flag ∷ below) r 0 a origin (omega (arith, size, inside)) pos)
-    (λ doubts known. record {
-      left = no_doubts;
-      portable = (tt, λ after f. tt);
-      leaves = λ after f. refl;
-      known = placed_known false no_doubts middle.page (record { wrap = refl; place = refl }) pos;
-    })
+    (back_portably r was start middle refl pos)
     (λ doubts known.
     let placed : IsPlaced doubts = record { wrap = known.inside pos; place = known.place refl } in
     erased_goes (EraseChars 1 ∷ []) doubts middle goal (erase_keeps 0 doubts middle placed begin end) placed
@@ -189,13 +208,14 @@ pub first_glyph_portably : (form : Form) → form ≡ Portable → (base : Canva
     (above : List CellValue) (on : Bool) (y : CellValue) (ys : List CellValue) (flag : Bool) (r : ℕ) (b : Attrs)
     (text : List ℕ) (wide : Bool) (a : Attrs) (was : Bool) → length done ≡ r →
     base.page.bottom + 1 ≡ length done + suc (suc (length below)) → ends above ≡ false → Paired (y ∷ ys) →
-    Sound flag (y ∷ ys) → glyph_columns wide ≤ base.page.width → Prints base.page.width text wide →
+    Sound flag (y ∷ ys) → glyph_columns wide ≤ base.page.width → (prints : Prints base.page.width text wide) →
+    (was ≡ false) ⊎ (prints.first ≡ 0x20) →
     Portably (attr_ops_in form b a ++ Print text ∷ []) was (waiting base done below above on (y ∷ ys) flag r b)
     (was || shifts form text)
     (begun base done below above (with_glyph [] text wide a ys) (wrapped_after_glyph flag wide (drop 1 ys)) r
     (0 + glyph_columns wide) a)
 first_glyph_portably form is base done below above on y ys flag r b text wide a was e bottom full paired sound fits
-    prints =
+    prints safe =
     let rows = done ++ row_of above on ∷ row_of (y ∷ ys) flag ∷ below in
     let goal = begun base done below above (with_glyph [] text wide a ys) (wrapped_after_glyph flag wide (drop 1 ys)) r
     (0 + glyph_columns wide) a in
@@ -205,7 +225,7 @@ first_glyph_portably form is base done below above on y ys flag r b text wide a 
     (waiting base done below above on (y ∷ ys) flag r b) (waiting base done below above on (y ∷ ys) flag r a) goal
     (changing_draws form base rows (pen_at r base.page.width b) a)
     (attrs_portably form is base rows (pen_at r base.page.width b) a was)
-    (wrapping_portably base done below above on y ys flag r text wide a was e bottom full paired sound fits prints))
+    (wrapping_portably base done below above on y ys flag r text wide a was e bottom full paired sound fits prints safe))
 
 -- ---- the last glyph of a row
 

@@ -295,9 +295,9 @@ text_place width text wide doubts canvas p place f =
     certain.1)
     ∙ (ap (λ (b : Bool). b || not (is_certain p.first)) place ∙ ap not certain.0)
 
-may_print_placed : (doubts : Doubts) → doubts.wrap ≡ NotPending → doubts.is_shifted ≡ false →
-    may_print doubts.wrap doubts.is_shifted ≡ true
-may_print_placed doubts wrap place = ap (λ (w : Wrap). may_print w doubts.is_shifted) wrap ∙ ap not place
+may_print_placed : (c : ℕ) (doubts : Doubts) → doubts.wrap ≡ NotPending → doubts.is_shifted ≡ false →
+    may_print c doubts.wrap doubts.is_shifted ≡ true
+may_print_placed c doubts wrap place = ap (λ (w : Wrap). may_print c w doubts.is_shifted) wrap ∙ ap not place
 
 pub some_columns : (wide : Bool) → 0 < glyph_columns wide
 some_columns true = omega arith
@@ -318,7 +318,7 @@ glyph_portably base done below pre o y ys flag r c text wide attrs prints at_spo
       left = doubts_after_text (chars text) doubts start;
       portable = (
         glyph_at_spot base done below pre o y ys flag r c text wide attrs doubts prints at_spot
-            (may_print_placed doubts (known.inside (omega (arith, some, fits))) place),
+            (may_print_placed prints.first doubts (known.inside (omega (arith, some, fits))) place),
         λ after e. tt,
       );
       leaves = λ after e. refl;

@@ -248,7 +248,7 @@ erase_rest_keeps doubts canvas p first = record {
 -- ---- glyphs
 
 character_portable : (c n : ℕ) (doubts : Doubts) (canvas : Canvas) → columns_of c ≡ Some (suc n) →
-    may_print doubts.wrap doubts.is_shifted ≡ true → HasColumns (suc n) canvas.page →
+    may_print c doubts.wrap doubts.is_shifted ≡ true → HasColumns (suc n) canvas.page →
     IsPortableUse (Graphic c) doubts canvas
 character_portable c n doubts canvas columns may room =
     subst (λ (w : Option ℕ). IsPortableCharacter w c doubts canvas.page) (sym columns) (may, room)
@@ -269,8 +269,8 @@ marks_portable (m ∷ ms) doubts canvas follows joined = (
 
 -- The text of a glyph is portable.
 pub glyph_portable : (text : List ℕ) (first : ℕ) (marks : List ℕ) (n : ℕ) (doubts : Doubts) (canvas : Canvas) →
-    chars text ≡ first ∷ marks → columns_of first ≡ Some (suc n) → may_print doubts.wrap doubts.is_shifted ≡ true →
-    HasColumns (suc n) canvas.page → AreJoined marks (canvas_after_print first canvas) →
+    chars text ≡ first ∷ marks → columns_of first ≡ Some (suc n) →
+    may_print first doubts.wrap doubts.is_shifted ≡ true → HasColumns (suc n) canvas.page → AreJoined marks (canvas_after_print first canvas) →
     IsPortableOp (Print text) doubts canvas
 glyph_portable text first marks n doubts canvas is columns may room joined =
     subst (λ (cs : List ℕ). PortableText cs doubts canvas) (sym is) (
@@ -365,8 +365,8 @@ marks_join (m ∷ ms) base done below pre o y ys flag r c text was attrs last wh
 -- Text printed at a boundary of a row is portable.
 pub glyph_at_spot : (base : Canvas) (done below : List RowValue) (pre : List CellValue) (o y : CellValue)
     (ys : List CellValue) (flag : Bool) (r c : ℕ) (text : List ℕ) (wide : Bool) (attrs : Attrs) (doubts : Doubts) →
-    Prints base.page.width text wide → Spot base done pre o y ys flag r c wide →
-    may_print doubts.wrap doubts.is_shifted ≡ true →
+    (prints : Prints base.page.width text wide) → Spot base done pre o y ys flag r c wide →
+    may_print prints.first doubts.wrap doubts.is_shifted ≡ true →
     IsPortableOp (Print text) doubts (spot base done below pre o y ys flag r c attrs)
 glyph_at_spot base done below pre o y ys flag r c text wide attrs doubts prints at_spot may =
     let start = spot base done below pre o y ys flag r c attrs in

@@ -18,6 +18,7 @@ use Rattle.vt_redraw.specs.Picture.{Picture}
 use Rattle.vt_redraw.specs.Script.{move_ops, attr_ops, blank_run, erase_run, no_ops, ops_then, placed_op, back_op}
 use Rattle.vt_redraw.specs.Script.{after_last_glyph, cells_written, is_at, last_column, last_glyph, pen_after, resets}
 use Rattle.vt_redraw.specs.Script.{Scripted, no_link, first_written, starts_other, ops_then_link, row_link, attr_ops_in}
+use Rattle.vt_redraw.specs.Script.{wrap_ops}
 use Rattle.vt_redraw.specs.Script.{break_ops, row_break, wrapped_after_erasure, wrapped_after_glyph, pen_in, pen_past}
 use Rattle.vt_redraw.specs.Redraw.{row_written, link_of, rows_below, rows_written, nearest, over_blank, under_last}
 use Rattle.vt_redraw.specs.Redraw.{blank_passed, pending_at, cursor_written, pen_of, cursor_visibility_ops, difference}
@@ -125,6 +126,10 @@ space_safe : (form : Form) (r : ℕ) → IsSafe (Print (0x20 ∷ []) ∷ back_op
 space_safe Fixed r s = (tt, (tt, (tt, tt)))
 space_safe Portable r s = (tt, (tt, (tt, tt)))
 
+wrap_safe : (r : ℕ) (pen : Pen) → IsSafe (wrap_ops r pen)
+wrap_safe r pen =
+    cond_both pen.is_shifted (Print (0x20 ∷ []) ∷ MoveTo r 0 ∷ []) [] IsSafe (λ _. λ s. (tt, (tt, tt))) (λ _. λ s. tt)
+
 first_safe : (r : ℕ) (pen : Pen) (flag : Bool) (xs ys : List CellValue) → IsSafe (first_written r pen flag xs ys).ops
 first_safe r pen flag [] ys = λ s. tt
 first_safe r pen flag (x ∷ xs) [] = λ s. tt
@@ -133,7 +138,9 @@ first_safe r pen flag (blank a ∷ xs) (y ∷ ys) =
     safe_append (attr_ops_in pen.form pen.attrs a) (Print (0x20 ∷ []) ∷ back_op pen.form r 0 ∷ EraseChars 1 ∷ [])
     (changing_safe pen.form pen.attrs a) (space_safe pen.form r)
 first_safe r pen flag (glyph text wide a ∷ xs) (y ∷ ys) =
-    safe_append (attr_ops_in pen.form pen.attrs a) (Print text ∷ []) (changing_safe pen.form pen.attrs a) (λ s. (tt, tt))
+    safe_append (attr_ops_in pen.form pen.attrs a) (wrap_ops r pen ++ Print text ∷ [])
+    (changing_safe pen.form pen.attrs a)
+    (safe_append (wrap_ops r pen) (Print text ∷ []) (wrap_safe r pen) (λ s. (tt, tt)))
 
 linked_safe : (r : ℕ) (pen : Pen) (above : List CellValue) (on flag : Bool) (xs ys : List CellValue) →
     IsSafe (row_link r pen above on flag xs ys).ops

@@ -26,7 +26,8 @@ use Rattle.vt_redraw.proofs.Places.{PrintsCells, Place, shown, Ready, Wrote}
 use Rattle.vt_redraw.proofs.Row.{cells_draw}
 use Rattle.vt_redraw.proofs.Link.{broken_draws, going_after_draws}
 use Rattle.vt_redraw.proofs.Ranges.{no_tail, Any, IsItem, range_draws, lets_any}
-use Rattle.vt_redraw.proofs.Joining.{first_blank, first_draws, first_sound, glyph_sound}
+use Rattle.vt_redraw.proofs.Joining.{first_draws}
+use Rattle.vt_redraw.proofs.Wrapping.{first_blank, first_sound, glyph_sound}
 use Rattle.vt_redraw.proofs.Rows.{Stands}
 use Rattle.vt_redraw.specs.declared.form.Form.TheVariants.{Fixed}
 

@@ -197,6 +197,12 @@ pub record Linked : Type 0 where
 abbrev pub no_link : Pen → Bool → Linked
 no_link pen flag = record { ops = []; pen = pen; flag = flag; settled = 0 }
 
+-- The operations that make the terminal wrap into row `r`, so that a glyph can be printed in its first column. Printing
+-- the glyph wraps by itself, unless terminals may differ in where the cursor is. Then a space is printed instead, and the
+-- cursor is moved to the glyph's position.
+abbrev pub wrap_ops : ℕ → Pen → List Op
+wrap_ops r pen = if pen.is_shifted then Print (0x20 ∷ []) ∷ MoveTo r 0 ∷ [] else []
+
 -- The output for the first cell of a row while a wrap is pending in the row above. A blank is printed as a space, which
 -- is then erased.
 abbrev pub first_written : ℕ → Pen → Bool → (xs ys : List CellValue) → Linked
@@ -210,8 +216,8 @@ first_written r pen flag (blank a ∷ xs) (y ∷ ys) = record {
   settled = 1;
 }
 first_written r pen flag (glyph text wide a ∷ xs) (y ∷ ys) = record {
-  ops = attr_ops_in pen.form pen.attrs a ++ Print text ∷ [];
-  pen = record (pen_in pen.form r (glyph_columns wide) a) { is_shifted = pen.is_shifted || shifts pen.form text };
+  ops = attr_ops_in pen.form pen.attrs a ++ (wrap_ops r pen ++ Print text ∷ []);
+  pen = pen_past pen.form r (glyph_columns wide) a text;
   flag = wrapped_after_glyph flag wide (drop 1 ys);
   settled = glyph_columns wide;
 }

@@ -1,5 +1,5 @@
 -- The elements of portable output, the states in which terminals agree on the effect of each, and portable operations.
-use Rattle.std.specs.Prelude.{◌≡◌, ◌⊎◌, ℕ, suc, zero, ◌+◌, ◌<◌, ◌≤◌, ◌||◌, not, Bool, true, false, List, [], ◌∷◌}
+use Rattle.std.specs.Prelude.{◌≡◌, ◌⊎◌, ℕ, suc, zero, ◌+◌, ◌<◌, ◌≤◌, ◌==◌, ◌||◌, not, Bool, true, false, List, [], ◌∷◌}
 use Rattle.std.specs.Prelude.{Option, Some, None, drop, length, chars, if◌then◌else◌}
 use Rattle.std.specs.List.{list_all}
 use Rattle.vt_cells.specs.Cell.{CellValue, is_right_half}
@@ -62,12 +62,13 @@ pub data Use : Type 0 where
 
 -- ---- the states in which terminals agree
 
--- Whether a character that takes columns of its own may be printed. If terminals may differ in the cursor's position,
--- such a character may only follow a pending wrap, since a row that continues on the next row needs the wrap.
-abbrev pub may_print : Wrap → (is_shifted : Bool) → Bool
-may_print NotPending is_shifted = not is_shifted
-may_print Pending is_shifted = true
-may_print Unsure is_shifted = false
+-- Whether a character that takes columns of its own may be printed. If terminals may differ in the cursor's position, it
+-- may only be a space that wraps, since a row that continues on the next row needs the wrap: a terminal that does not
+-- wrap there prints the space beside the glyph of uncertain width.
+abbrev pub may_print : (c : ℕ) → Wrap → (is_shifted : Bool) → Bool
+may_print c NotPending is_shifted = not is_shifted
+may_print c Pending is_shifted = not is_shifted || (c == 0x20)
+may_print c Unsure is_shifted = false
 
 -- A character that takes `n` columns has room in the rest of the cursor's row or, if a wrap is pending, in the next
 -- row.
@@ -80,7 +81,7 @@ abbrev pub IsPortableCharacter : Option ℕ → (c : ℕ) → Doubts → Page �
 IsPortableCharacter None c doubts page = ⊥
 IsPortableCharacter (Some zero) c doubts page = (doubts.is_after_character ≡ true) × (carries c page ≡ false)
 IsPortableCharacter (Some (suc n)) c doubts page =
-    (may_print doubts.wrap doubts.is_shifted ≡ true) × HasColumns (suc n) page
+    (may_print c doubts.wrap doubts.is_shifted ≡ true) × HasColumns (suc n) page
 
 -- Whether terminals disagree on the effect of setting the second intensity while the first one is set. SGR 1 and SGR 2
 -- replace each other on some terminals; on most, both are in effect until SGR 22 or SGR 0 (ECMA-48, 8.3.117).

@@ -11,7 +11,7 @@ ghost use Rattle.vt_rows.specs.Cells.{IsPaired};
 ghost use Rattle.vt_redraw.specs.Internals.{AppendsOrStops, IsRowOver, IsRowUnder, LinksOrStops, Writes, break_of};
 ghost use Rattle.vt_redraw.specs.Redraw.{link_of};
 ghost use Rattle.vt_redraw.specs.Refusals.{RefusedOnlyIfSome};
-ghost use Rattle.vt_redraw.specs.Script.{after_last_glyph, back_op, first_written, is_at, starts_other};
+ghost use Rattle.vt_redraw.specs.Script.{after_last_glyph, back_op, first_written, is_at, starts_other, wrap_ops};
 
 use crate::cells::{columns, print_at, wrapped_after_glyph, write_text};
 use crate::form::{Form, erased_columns, shifts};
@@ -112,6 +112,21 @@ fn is_wrapped(flag: bool, over: &PictureRow<'_>) -> bool
     flag && !(over.cols() <= 1)
 }
 
+/// Makes the terminal wrap into row `row`, if terminals may differ in where the cursor is while a wrap
+/// is pending in the row above. Prints a space, and moves the cursor to the first column of the row. A
+/// terminal that does not wrap displays the space beside the glyph of uncertain width. Otherwise
+/// writes nothing: the next glyph wraps by itself.
+fn write_wrap<S: Sink>(sink: &mut S, pen: &Pen, row: u16) -> Result<(), S::Error>
+    ensures { AppendsOrStops result (S.text sink.old) (S.text sink.new) (wrap_ops row pen.now) }
+{
+    if !pen.is_shifted {
+        return Ok(());
+    }
+    let pos = Pos { row, col: 0 };
+    sink.write_str(" ")?;
+    MoveTo { pos }.write_buf(sink)
+}
+
 /// Prints the glyph `cell` at the beginning of a row while a wrap is pending in the row above,
 /// which makes the terminal wrap into the row. Returns the state of the row afterward.
 fn write_first_glyph<S: Sink>(
@@ -128,11 +143,12 @@ fn write_first_glyph<S: Sink>(
         (first_written row pen.old flag (cell.now ∷ []) over.now.cells) }
 {
     pen.change_attrs(sink, cell::attrs(cell))?;
+    write_wrap(sink, pen, row)?;
     write_text(sink, cell.contents())?;
     let settled = columns(cell);
     pen.row = row;
     pen.col = settled;
-    pen.is_shifted = pen.is_shifted || shifts(pen.form, cell);
+    pen.is_shifted = shifts(pen.form, cell);
     Ok(Link {
         flag: wrapped_after_glyph(flag, cell.is_wide(), over, settled),
         settled,

@@ -73,7 +73,7 @@ character_kept : (columns : Option ℕ) (c : ℕ) (was now : Doubts) (page : Pag
     IsPortableCharacter columns c was page → IsPortableCharacter columns c now page
 character_kept None c was now page w p = p
 character_kept (Some zero) c was now page w p = (w.follows p.0, p.1)
-character_kept (Some (suc n)) c was now page w p = (ap₂ may_print w.wrap w.place ∙ p.0, p.1)
+character_kept (Some (suc n)) c was now page w p = (ap₂ (may_print c) w.wrap w.place ∙ p.0, p.1)
 
 use_kept : (element : Use) (was now : Doubts) (canvas : Canvas) → IsNoWorse was now → IsPortableUse element was canvas →
     IsPortableUse element now canvas
@@ -399,7 +399,7 @@ pub room_portable : (columns : Option ℕ) (c n : ℕ) (doubts : Doubts) (screen
     IsPlaced doubts → screen.page.column + suc n ≤ screen.page.width → IsPortableCharacter columns c doubts screen.page
 room_portable columns c n doubts screen e p room =
     subst (λ (o : Option ℕ). IsPortableCharacter o c doubts screen.page) (sym e)
-    (ap (λ (w : Wrap). may_print w doubts.is_shifted) p.wrap ∙ ap not p.place, inl room)
+    (ap (λ (w : Wrap). may_print c w doubts.is_shifted) p.wrap ∙ ap not p.place, inl room)
 
 -- A certain character was printed in the cursor's row.
 pub record IsPrintedOn (column width : ℕ) (left : Doubts) : Type 0 where

@@ -250,7 +250,7 @@ run_kept (suc n) c rest doubts screen some is room apart h = (
     place : later.is_shifted ≡ false
     place =
         not_true later.is_shifted
-        (sym (ap (λ (w : Wrap). may_print w later.is_shifted) wrap) ∙ second.0)
+        (sym (ap (λ (w : Wrap). may_print c w later.is_shifted) wrap) ∙ second.0)
 
     placed : IsPlaced later
     placed = record { wrap = wrap; place = place }

@@ -249,7 +249,7 @@ free_character : (columns : Option ℕ) (c : ℕ) (was now : Doubts) (page : Pag
     IsPortableCharacter columns c was page → IsPortableCharacter columns c now page
 free_character None c was now page other p h = h
 free_character (Some zero) c was now page other p h = absurd (other refl)
-free_character (Some (suc n)) c was now page other p h = (ap₂ may_print p.wrap p.place ∙ h.0, h.1)
+free_character (Some (suc n)) c was now page other p h = (ap₂ (may_print c) p.wrap p.place ∙ h.0, h.1)
 
 pub free_graphic : (c : ℕ) → columns_of c ≢ Some 0 → IsFree (Graphic c)
 free_graphic c other = record {
