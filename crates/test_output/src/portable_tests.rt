@@ -23,7 +23,7 @@ const PORTABLE: DiffOptions = DiffOptions {
 };
 
 #[rattlefmt::skip]
-const REDRAWN: [Redrawn; 11] = [
+const REDRAWN: [Redrawn; 16] = [
     // A wrap is pending on a row whose last cell is blank. Terminals disagree on where the cursor
     // is then, so it is moved to a position.
     (
@@ -50,8 +50,14 @@ const REDRAWN: [Redrawn; 11] = [
     // Such a glyph at the end of a row. Terminals may have wrapped already, so CR is not used.
     ((2, 2), 0, &[Text("ae\u{301}\r\nb")], Portable, "ae\u{301}\x1b[2;1Hb"),
 
-    // Such a glyph at the end of a wrapped row: only the first glyph of the next row follows it.
-    ((2, 2), 0, &[Text("ae\u{301}bc")], Portable, "ae\u{301}b\x1b[2;2Hc"),
+    // Such a glyph at the end of a wrapped row. Terminals may wrap elsewhere, so a space marks the row
+    // as wrapped, and the first glyph of the next row is placed.
+    ((2, 2), 0, &[Text("ae\u{301}bc")], Portable, "ae\u{301} \x1b[2;1Hbc"),
+    ((2, 4), 0, &[Text("ab\u{2764}\u{fe0f}x")], Portable, "ab\u{2764}\u{fe0f} \x1b[2;1Hx"),
+    ((2, 4), 0, &[Text("ab\u{2764}\u{fe0f}\u{65e5}")], Portable, "ab\u{2764}\u{fe0f} \x1b[2;1H\u{65e5}"),
+    ((2, 2), 0, &[Text("ae\u{301}\x1b[31mb")], Portable, "ae\u{301}\x1b[31m \x1b[2;1Hb"),
+    ((3, 1), 0, &[Text("e\u{301}xy")], Portable, "e\u{301} \x1b[2;1Hxy"),
+    ((2, 2), 0, &[Text("ab\u{2764}\u{fe0f}")], Portable, "ab\u{2764}\u{fe0f}"),
 
     // A wrap is pending below such a glyph, or below a glyph of certain width.
     (
@@ -71,7 +77,7 @@ fn portable_redraws_use_no_state_in_which_terminals_disagree(rt: HostRuntime) ->
 }
 
 #[rattlefmt::skip]
-const CHANGED: [Example; 8] = [
+const CHANGED: [Example; 11] = [
     // The three faults of the fixed form.
     (
         (2, 5), 0, &[], &[Text("abcd\r\nxxxxx\x1b[A")],
@@ -92,6 +98,21 @@ const CHANGED: [Example; 8] = [
     // A letter with U+0301: terminals disagree on its width, so what follows is placed.
     ((2, 5), 0, &[Text("ab")], &[Text("e\u{301}c")], "\x1b[He\u{301}\x1b[1;2Hc"),
     ((2, 5), 0, &[Text("a")], &[Text("e\u{301}")], "\x1b[He\u{301}\x1b[1;2H"),
+
+    // A wrap is pending after such a glyph, and a glyph follows on the next row.
+    ((2, 2), 0, &[Text("ae\u{301}")], &[Text("ae\u{301}b")], " \x1b[2;1Hb"),
+
+    // The row above becomes wrapped, and ends with such a glyph.
+    (
+        (2, 2), 0, &[Text("ae\u{301}\r\nxy")], &[Text("ae\u{301}xy")],
+        "\x1b[1;2He\u{301} \x1b[2;1Hxy",
+    ),
+
+    // A wide glyph, half of which the space overwrites.
+    (
+        (2, 2), 0, &[Text("ae\u{301}\r\n\u{65e5}")], &[Text("ae\u{301}\u{65e5}")],
+        "\x1b[1;2He\u{301} \x1b[2;1H\u{65e5}",
+    ),
 
     // A wrap is pending after such a glyph. Terminals may have wrapped already, so CR is not used.
     ((2, 2), 0, &[Text("ae\u{301}")], &[Text("ae\u{301}\r\nb")], "\x1b[2;1Hb"),

@@ -220,6 +220,10 @@ space_prints width h = record {
   grows = (refl, spelled);
 }
 
+pub space_first : (width : ℕ) (some : 0 < width) → (space_prints width some).first ≡ 0x20
+unfolding space_prints
+space_first width some = refl
+
 -- ==== Printing the text of a steady glyph draws the glyph if there is room for it, and also with a wrap pending.
 
 -- ---- one more combining character

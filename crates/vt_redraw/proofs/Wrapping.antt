@@ -17,7 +17,7 @@ use Rattle.vt_redraw.proofs.Edits.{changing_draws, back_draws, row_of, mid, put,
 use Rattle.vt_redraw.proofs.Edits.{chars_erased, Spot, with_glyph, glyph_flag}
 use Rattle.vt_redraw.proofs.Halves.{Paired, opened_paired, opened_twice, drop_opened, ends, kept, Sound}
 use Rattle.vt_redraw.proofs.Halves.{sound_kept, flag_step}
-use Rattle.vt_redraw.proofs.Texts.{Prints, no_tear, space_prints}
+use Rattle.vt_redraw.proofs.Texts.{Prints, no_tear, space_first, space_prints}
 use Rattle.vt_redraw.proofs.Touched.{DrawsIn, in_then, in_to, quiet_in, changing_quiet, changes_at, back_quiet}
 use Rattle.vt_redraw.proofs.Touched.{MayGlyph, print_in, print_in_wraps}
 use Rattle.vt_redraw.proofs.Link.{erase_touches}
@@ -163,7 +163,7 @@ blank_portably Portable is base done below above on y ys flag r b a was origin e
     ))
     prints (record { first = tt; second = λ _. tt; torn = λ _. tt })).draws
     (first_glyph_portably Portable refl base done below above on y ys flag r b space false a was e bottom full k sound
-    (omega (arith, pos)) prints (inr refl))
+    (omega (arith, pos)) prints (inr (space_first base.page.width pos)))
     (unspaced_portably base top below ys now (r + 1) a (was || shifts Portable space) goal n origin
     (omega (arith, n)) pos refl refl))
 
@@ -353,6 +353,6 @@ linked_portably Portable is true base done below above on y ys flag r b text wid
     (first_glyph Any Portable base done below above on y ys flag r b (0x20 ∷ []) false a e bottom full paired sound
     (omega (arith, some, fits)) space (record { first = tt; second = λ _. tt; torn = λ _. tt })).draws
     (first_glyph_portably Portable refl base done below above on y ys flag r b (0x20 ∷ []) false a true e bottom full
-    paired sound (omega (arith, some, fits)) space (inr refl))
+    paired sound (omega (arith, some, fits)) space (inr (space_first base.page.width (omega (arith, some, fits)))))
     (replaces_space_portably base top below y ys flag (r + 1) text wide a true origin n (omega (arith, some, fits))
     paired sound fits prints))

@@ -6,7 +6,7 @@
 
 ghost use Rattle.std.specs.Prelude.{◌≡◌, ◌++◌, ◌<◌, ◌&&◌, ◌||◌, [], ◌∷◌, not, nat_le, true, IfOk, OnOk, length};
 ghost use Rattle.vt_cells.specs.Cell.{is_blank, is_glyph};
-ghost use Rattle.vt_cells.specs.Op.{bytes_of, bytes_of_all};
+ghost use Rattle.vt_cells.specs.Op.{Print, bytes_of, bytes_of_all};
 ghost use Rattle.vt_rows.specs.Cells.{IsPaired};
 ghost use Rattle.vt_redraw.specs.Internals.{AppendsOrStops, IsRowOver, IsRowUnder, LinksOrStops, Writes, break_of};
 ghost use Rattle.vt_redraw.specs.Redraw.{link_of};
@@ -112,19 +112,19 @@ fn is_wrapped(flag: bool, over: &PictureRow<'_>) -> bool
     flag && !(over.cols() <= 1)
 }
 
-/// Makes the terminal wrap into row `row`, if terminals may differ in where the cursor is while a wrap
-/// is pending in the row above. Prints a space, and moves the cursor to the first column of the row. A
-/// terminal that does not wrap displays the space beside the glyph of uncertain width. Otherwise
-/// writes nothing: the next glyph wraps by itself.
-fn write_wrap<S: Sink>(sink: &mut S, pen: &Pen, row: u16) -> Result<(), S::Error>
-    ensures { AppendsOrStops result (S.text sink.old) (S.text sink.new) (wrap_ops row pen.now) }
+/// Prints the text of a glyph in the first column of row `row`, while a wrap is pending in the row
+/// above. If terminals may differ in where the cursor is, first prints a space, which makes the
+/// terminal wrap, and then moves the cursor to the glyph's position. A terminal that does not wrap
+/// displays the space beside the glyph of uncertain width.
+fn write_wrapping<S: Sink>(sink: &mut S, pen: &Pen, row: u16, text: &str) -> Result<(), S::Error>
+    ensures { AppendsOrStops result (S.text sink.old) (S.text sink.new) (wrap_ops row pen.now ++ Print text.now ∷ []) }
 {
-    if !pen.is_shifted {
-        return Ok(());
+    if pen.is_shifted {
+        let pos = Pos { row, col: 0 };
+        sink.write_str(" ")?;
+        MoveTo { pos }.write_buf(sink)?;
     }
-    let pos = Pos { row, col: 0 };
-    sink.write_str(" ")?;
-    MoveTo { pos }.write_buf(sink)
+    write_text(sink, text)
 }
 
 /// Prints the glyph `cell` at the beginning of a row while a wrap is pending in the row above,
@@ -143,8 +143,7 @@ fn write_first_glyph<S: Sink>(
         (first_written row pen.old flag (cell.now ∷ []) over.now.cells) }
 {
     pen.change_attrs(sink, cell::attrs(cell))?;
-    write_wrap(sink, pen, row)?;
-    write_text(sink, cell.contents())?;
+    write_wrapping(sink, pen, row, cell.contents())?;
     let settled = columns(cell);
     pen.row = row;
     pen.col = settled;
