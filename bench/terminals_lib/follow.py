@@ -95,7 +95,8 @@ class Terminals:
         for update in screens:
             rows, words = update.rows, (update.outputs[kind], row, len(update.rows))
             own = moved(own, *words) | self.widths.odd_places(rows)
-            wrapped = moved(wrapped, *words) | self.widths.wrapped_places(rows)
+            if not kind.startswith("portable"):
+                wrapped = moved(wrapped, *words) | self.widths.wrapped_places(rows)
             if self.make.keeps_orphans:
                 orphans = moved(orphans, *words) | self.widths.orphan_places(moved(wide, *words), rows)
             wide, row = wide_places(rows), update.cursor[0]

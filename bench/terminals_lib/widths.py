@@ -100,14 +100,14 @@ class Widths:
             for down, right in near:
                 found |= self.drawn(rows, at + down, col + right)
             if col + columns > len(rows[at]):
-                # It has no room in its row, and is at the beginning of the next one.
-                found |= {it for right in range(columns) for it in self.drawn(rows, at + 1, right)}
+                # It has no room in its row, and is at the beginning of the next one, before the space that wraps.
+                found |= {it for right in range(columns + 1) for it in self.drawn(rows, at + 1, right)}
         return found
 
     def wrapped_places(self, rows):
-        """Returns the places on which the wrap after a glyph of another width at the end of a row has an effect. After a
-        narrower one, the terminal does not wrap, and the first glyph of the next row is missing. A wider one is itself at
-        the beginning of the next row, and the first glyph is after it.
+        """Returns the places on which the wrap after a glyph of another width at the end of a row has an effect in output
+        that is not portable. After a narrower one, the terminal does not wrap, and the first glyph of the next row is
+        missing. A wider one is itself at the beginning of the next row, and the first glyph is after it.
         """
         found = set()
         for at, col, glyph, width, marks in self.odd_glyphs(rows):
