@@ -1,6 +1,6 @@
 -- The characters on whose width terminals agree, by ranges of their codes.
 use Rattle.std.proofs.Common.{◌≡◌, ◌<◌, ◌≤◌, ◌+◌, ◌-◌, ◌*◌, ◌||◌, ◌&&◌, ℕ, List, [], ◌∷◌, length, arith, ap, false, true}
-use Rattle.std.proofs.Common.{nat_le, refl}
+use Rattle.std.proofs.Common.{nat_le, refl, ◌∙◌}
 use Rattle.std.specs.Char.{encode_utf8}
 use Rattle.std.specs.Str.{IsUtf8, chars, continuation_len, encode_utf8_all, lead_bits}
 use Rattle.std.proofs.lemmas.Bool.Decides.{nat_tests}
@@ -103,6 +103,17 @@ three_bytes a b c from less =
     let len : continuation_len a ≡ 2 = grind (arith, nat_tests, from, less) in
     let bits : lead_bits a ≡ a - 0xE0 = grind (arith, nat_tests, from, less) in
     rw (len, bits) refl
+
+certain_ideograph : (c : ℕ) → 0x4E00 ≤ c → c ≤ 0x9FD5 → is_certain c ≡ true
+certain_ideograph c from upto = let wide = ideograph c from upto in grind (arith, wide)
+
+-- These characters are ideographs.
+pub ideograph_bytes : (a b c : ℕ) → 0xE5 ≤ a → a ≤ 0xE7 → b < 256 → c < 256 →
+    is_certain_text (a ∷ b ∷ c ∷ []) ≡ true
+ideograph_bytes a b c from upto second third =
+    ap are_certain (three_bytes a b c (omega (arith, from)) (omega (arith, upto)))
+    ∙ certain_ideograph (((a - 0xE0) * 64 + (b - 0x80)) * 64 + (c - 0x80)) (omega (arith, from))
+    (omega (arith, upto, second, third))
 
 pub longer : (text : List ℕ) → IsUtf8 text → 4 < length text → is_certain_text text ≡ false
 longer text utf8 more = by_chars (chars text) (encodes-chars text utf8) where

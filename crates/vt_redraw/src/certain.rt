@@ -188,6 +188,19 @@ fn code_of_three(lead: u8, second: u8, third: u8) -> u32
         + u32::from(third).saturating_sub(0x80)
 }
 
+/// Returns whether terminals agree on the width of the character whose UTF-8 encoding is the three
+/// given bytes. Those from U+5000 to U+7FFF are ideographs.
+#[inline(always)]
+#[tactic(auto, using(crate::proofs::Certainty::ideograph_bytes))]
+fn is_certain_of_three(lead: u8, second: u8, third: u8) -> bool
+    ensures { 0xE0 ≤ lead → lead < 0xF0 → result ≡ is_certain_text (lead ∷ second ∷ third ∷ []) }
+{
+    if 0xe5 <= lead && lead <= 0xe7 {
+        return true;
+    }
+    is_certain_code(code_of_three(lead, second, third))
+}
+
 /// Returns whether the text is a single character on whose width terminals agree.
 pub fn is_certain_text(text: &str) -> bool
     ensures { result ≡ is_certain_text text.now }
@@ -196,9 +209,7 @@ pub fn is_certain_text(text: &str) -> bool
     // character.
     match text.as_bytes() {
         [lead @ 0xc0..=0xdf, second] => is_certain_code(code_of_two(*lead, *second)),
-        [lead @ 0xe0..=0xef, second, third] => {
-            is_certain_code(code_of_three(*lead, *second, *third))
-        }
+        [lead @ 0xe0..=0xef, second, third] => is_certain_of_three(*lead, *second, *third),
         _ => is_certain_character(text),
     }
 }
