@@ -295,9 +295,10 @@ fn gather_alike(
 /// Buffers consecutive glyphs, starting at the pen, that have the same attributes, width and text
 /// length as the glyph `like`, and moves the pen past them. Stops at a glyph that the terminal
 /// already displays or that does not fit in the buffer. `flag` is true if the terminal's row is
-/// wrapped, and is updated.
-#[inline(never)]
-fn gather_more(
+/// wrapped, and is updated. `form` is the pen's: if it is a constant, the loop does not test it.
+#[inline(always)]
+fn gather_in(
+    form: Form,
     buffer: &mut Buffer,
     pen: &mut Pen,
     flag: &mut bool,
@@ -305,6 +306,7 @@ fn gather_more(
     cells: &PictureRow<'_>,
     over: &PictureRow<'_>,
 )
+    requires form { pen.old.form ≡ form }
     requires range { IsRange cells.now.cells over.now.cells }
     requires short { length over.now.cells < 65536 }
     requires glyph { is_glyph like.now ≡ true }
@@ -328,13 +330,44 @@ fn gather_more(
     while !is_shifted && bytes <= buffer.room() && is_alike(like, own, others, col) {
         let cell = &own[usize::from(col)];
         buffer.push(cell.contents());
-        is_shifted = shifts(pen.form, cell);
+        is_shifted = shifts(form, cell);
         col += count;
         on = wrapped_after_glyph(on, wide, over, col);
     }
     pen.col = col;
     pen.is_shifted = is_shifted;
     *flag = on;
+}
+
+/// Buffers consecutive glyphs, starting at the pen, that have the same attributes, width and text
+/// length as the glyph `like`, and moves the pen past them. Stops at a glyph that the terminal
+/// already displays or that does not fit in the buffer. `flag` is true if the terminal's row is
+/// wrapped, and is updated.
+#[inline(never)]
+fn gather_more(
+    buffer: &mut Buffer,
+    pen: &mut Pen,
+    flag: &mut bool,
+    like: &Cell,
+    cells: &PictureRow<'_>,
+    over: &PictureRow<'_>,
+)
+    requires range { IsRange cells.now.cells over.now.cells }
+    requires short { length over.now.cells < 65536 }
+    requires glyph { is_glyph like.now ≡ true }
+    requires attrs { pen.old.attrs ≡ attrs_of like.now }
+    requires inside { pen.old.col ≤ length over.now.cells }
+    ensures leads { (text : List ℕ) → Leads (buffered_text text buffer.new)
+        (cells_from pen.old.row pen.new.col pen.new flag.new cells.now.cells over.now.cells)
+        (buffered_text text buffer.old)
+        (cells_from pen.old.row pen.old.col pen.old flag.old cells.now.cells over.now.cells) }
+    ensures order { pen.old.col ≤ pen.new.col }
+    ensures inside { pen.new.col ≤ length over.now.cells }
+{
+    match pen.form {
+        Form::Fixed => gather_in(Form::Fixed, buffer, pen, flag, like, cells, over),
+        Form::Portable => gather_in(Form::Portable, buffer, pen, flag, like, cells, over),
+    }
 }
 
 /// Buffers the narrow glyph `cell` at position `pos`, whose text is one byte long, and the glyphs

@@ -7,7 +7,7 @@ use Rattle.vt_redraw.specs.Internals.{Leads, cells_from}
 use Rattle.vt_redraw.specs.Script.{pen_in, pen_past, shifts, wrapped_after_glyph}
 use Rattle.vt_redraw.proofs.Writing.{alike_inside, alike_leads, glyph_text, read_at}
 use Rattle.vt_redraw.proofs.CellSteps.{leads_then}
-use Rattle.vt_redraw.proofs.cells.gather_more.Goals as goal
+use Rattle.vt_redraw.proofs.cells.gather_in.Goals as goal
 
 pub loop-is_shifted-preserved : goal.loop-is_shifted-preserved
 loop-is_shifted-preserved c =
@@ -33,7 +33,8 @@ loop-is_shifted-preserved c =
     c.wrapped_after_glyph-on.ensures ∙ ap (λ w. wrapped_after_glyph l.on w (drop next ys)) c.is_wide-wide.ensures in
     let shifted = c.shifts-is_shifted.result in
     let after : shifted ≡ shifts pen.form (text_of (at own l.col)) =
-    c.shifts-is_shifted.ensures ∙ ap (λ cell. shifts pen.form (text_of cell)) (sym x) in
+    c.shifts-is_shifted.ensures ∙ ap (λ cell. shifts c.args.form (text_of cell)) (sym x)
+    ∙ ap (λ form. shifts form (text_of (at own l.col))) (sym c.requires.form) in
     let test = c.loop-is_shifted-test.true in
     let still : l.is_shifted ≡ false = grind (arith, test) in
     let order = l.invariant.order in

@@ -2,7 +2,7 @@ use Rattle.std.proofs.Common.{◌-◌, ◌≤◌, ℕ, List, length}
 use Rattle.vt_cells.specs.Internals.{buffered_text}
 use Rattle.vt_redraw.specs.Internals.{Leads, cells_from}
 use Rattle.vt_redraw.specs.Script.{pen_in}
-use Rattle.vt_redraw.proofs.cells.gather_more.Given as goal
+use Rattle.vt_redraw.proofs.cells.gather_in.Given as goal
 
 -- The loop invariant: after the buffered glyphs, the output of the remaining cells leads to the whole output.
 abbrev pub invariant-loop-is_shifted : goal.invariant-loop-is_shifted
