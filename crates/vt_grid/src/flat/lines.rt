@@ -87,7 +87,11 @@ impl Lines {
         requires { row < length self.old.items }
         ensures { self.new.items ≡ slice_set self.old.items row line }
     {
-        self.entries[self.start + row] = line;
+        // Written field by field, since a field that keeps its value then costs no instruction.
+        let entry = &mut self.entries[self.start + row];
+        entry.place = line.place;
+        entry.used = line.used;
+        entry.wrapped = line.wrapped;
     }
 
     /// Rotates the entries of rows `from..to` upward by `count`. If all rows are rotated, upward by
