@@ -6,6 +6,7 @@ ghost use Rattle.vt_cells.specs.Attrs.{default_attrs};
 ghost use Rattle.vt_cells.specs.Op.{bytes_of_all};
 ghost use Rattle.vt_redraw.specs.Internals.{AppendsOrStops};
 ghost use Rattle.vt_redraw.specs.Script.{attr_ops, attr_ops_in, move_ops, is_at, pen_at, pen_in, pen_with};
+ghost use Rattle.vt_redraw.specs.declared.form.Form.TheVariants.{Portable};
 
 use crate::form::{Form, resets};
 use vt_cells::term::{BufWrite, ChangeAttrs, MoveFromTo, MoveTo};
@@ -181,15 +182,41 @@ impl Pen {
     }
 }
 
-/// Appends the SGR sequences that change the attributes from `was` to `new`, or nothing if they are
-/// equal.
-#[inline(never)]
+/// Appends the SGR sequences that change the attributes from `was` to `new` in the given form, or
+/// nothing if they are equal.
+#[inline(always)]
 fn push_change(buffer: &mut Buffer, form: Form, was: Attrs, new: Attrs)
     requires { length buffer.old + 67 ≤ 256 }
     ensures text { buffer.new ≡ buffer.old ++ bytes_of_all (attr_ops_in form was new) }
     ensures room { length buffer.new ≤ length buffer.old + 67 }
 {
-    if resets(form, was, new) {
+    match form {
+        Form::Fixed => push_fixed_change(buffer, was, new),
+        Form::Portable => push_portable_change(buffer, was, new),
+    }
+}
+
+/// Appends the SGR sequence that changes the attributes from `was` to `new` in the fixed form, or
+/// nothing if they are equal.
+#[inline(never)]
+#[tactic(auto, using(crate::proofs::Writing::change_written))]
+fn push_fixed_change(buffer: &mut Buffer, was: Attrs, new: Attrs)
+    requires { length buffer.old + 67 ≤ 256 }
+    ensures text { buffer.new ≡ buffer.old ++ bytes_of_all (attr_ops was new) }
+    ensures room { length buffer.new ≤ length buffer.old + 67 }
+{
+    ChangeAttrs { was, new }.push(buffer);
+}
+
+/// Appends the SGR sequences that change the attributes from `was` to `new` in the portable form, or
+/// nothing if they are equal.
+#[inline(never)]
+fn push_portable_change(buffer: &mut Buffer, was: Attrs, new: Attrs)
+    requires { length buffer.old + 67 ≤ 256 }
+    ensures text { buffer.new ≡ buffer.old ++ bytes_of_all (attr_ops_in Portable was new) }
+    ensures room { length buffer.new ≤ length buffer.old + 67 }
+{
+    if resets(Form::Portable, was, new) {
         buffer.push("\x1b[m");
         ChangeAttrs {
             was: Attrs::new(),
