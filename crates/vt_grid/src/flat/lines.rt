@@ -96,7 +96,7 @@ impl Lines {
 
     /// Rotates the entries of rows `from..to` upward by `count`. If all rows are rotated, upward by
     /// `count` or downward by the number of the remaining rows, the average time per row does not
-    /// depend on the number of rows.
+    /// depend on the number of rows. A rotation of a single row changes nothing.
     pub fn rotate(&mut self, from: usize, to: usize, count: usize)
         requires in_order { from + count ≤ to }
         requires inside { to ≤ length self.old.items }
@@ -104,6 +104,9 @@ impl Lines {
         ensures lines { (k : ℕ) →
             line_at self.new.items k ≡ line_at self.old.items (rotation_source from to count k) }
     {
+        if count == to - from {
+            return;
+        }
         if count == 1 && to - from == self.len() {
             self.rotate_by_one();
         } else {
