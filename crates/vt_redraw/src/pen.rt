@@ -1,7 +1,7 @@
 //! The pen: the cursor position and attributes of the terminal that reads the output, and the form
 //! of the output.
 
-ghost use Rattle.std.specs.Prelude.{◌≡◌, ◌&&◌, ◌+◌, ◌≤◌, ◌++◌, OnOk, length, not};
+ghost use Rattle.std.specs.Prelude.{◌≡◌, ◌&&◌, ◌+◌, ◌≤◌, ◌++◌, OnOk, length, not, true};
 ghost use Rattle.vt_cells.specs.Attrs.{default_attrs};
 ghost use Rattle.vt_cells.specs.Op.{bytes_of_all};
 ghost use Rattle.vt_redraw.specs.Internals.{AppendsOrStops};
@@ -152,15 +152,31 @@ impl Pen {
         ensures pen { self.new ≡ pen_in self.old.form to.row to.col self.old.attrs }
     {
         if self.is_shifted {
-            buffer.push_place(to);
-            self.is_shifted = false;
-        } else {
-            let from = Pos {
-                row: self.row,
-                col: self.col,
-            };
-            MoveFromTo { from, to }.push(buffer);
+            self.push_place(buffer, to);
+            return;
         }
+        let from = Pos {
+            row: self.row,
+            col: self.col,
+        };
+        MoveFromTo { from, to }.push(buffer);
+        self.row = to.row;
+        self.col = to.col;
+    }
+
+    /// Moves the pen to a position, and appends the cursor movement that names the position to
+    /// `buffer`. Terminals must disagree on the pen's current position.
+    #[inline(never)]
+    #[tactic(auto, unfolding(crate::specs::Script::move_ops))]
+    fn push_place(&mut self, buffer: &mut Buffer, to: Pos)
+        requires fits { length buffer.old + 25 ≤ 256 }
+        requires shifted { self.old.is_shifted ≡ true }
+        ensures text { buffer.new ≡ buffer.old ++ bytes_of_all (move_ops self.old to.row to.col) }
+        ensures room { length buffer.new ≤ length buffer.old + 25 }
+        ensures pen { self.new ≡ pen_in self.old.form to.row to.col self.old.attrs }
+    {
+        buffer.push_place(to);
+        self.is_shifted = false;
         self.row = to.row;
         self.col = to.col;
     }
