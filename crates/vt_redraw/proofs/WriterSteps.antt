@@ -4,7 +4,7 @@ use Rattle.std.proofs.Common.{append_assoc, zero, suc, ◌-◌, ◌&&◌, not, t
 use Rattle.std.proofs.Common.{length-append, replicate}
 use Rattle.std.proofs.lemmas.List.{drop_more, drop_all, drop-take, get_or-take, get_or_past, length-take}
 use Rattle.std.proofs.lemmas.List.Concat.{flat_map-append}
-use Rattle.std.specs.Prelude.{if◌then◌else◌, Result}
+use Rattle.std.specs.Prelude.{if◌then◌else◌, Err, IsErr, Ok, OnOk, Result}
 use Rattle.std.proofs.lemmas.Bool.{cases_lt, cond-true, cond-false}
 use Rattle.std.proofs.lemmas.Result.{on_err_weaker, on_ok_weaker}
 use Rattle.vt_cells.specs.Attrs.{default_attrs}
@@ -401,6 +401,28 @@ gathers_after result start before mid end behind ops flushed empty appends = rec
       ∙ (nothing_gathered end ∙ (more ∙ ap (λ (xs : List ℕ). xs ++ bytes_of_all ops) flushed))) appends.text;
   grows = on_ok_weaker result (grown_after start before mid (bytes_of_all ops) end flushed) appends.text;
   nonempty = on_err_weaker result (some_after before (bytes_of_all ops)) appends.nonempty;
+}
+
+all_flushed : (start before mid buffer : List ℕ) (ops : List Op) → before ≡ [] →
+    buffered_text mid buffer ≡ buffered_text start before ++ bytes_of_all ops →
+    buffered_text mid buffer ≡ start ++ bytes_of_all ops
+all_flushed start before mid buffer ops empty gathered =
+    gathered ∙ ap (λ (xs : List ℕ). xs ++ bytes_of_all ops) (ap (buffered_text start) empty ∙ nothing_gathered start)
+
+-- Gathering operations in an empty buffer, and then flushing the buffer, has the effect of appending them.
+pub appends_flushed : {A E : Type 0} (result : Result A E) (start before mid buffer end : List ℕ) (ops : List Op) →
+    before ≡ [] → buffered_text mid buffer ≡ buffered_text start before ++ bytes_of_all ops →
+    length start ≤ length mid → OnOk result (end ≡ buffered_text mid buffer) →
+    (IsErr result → 0 < length buffer) → AppendsOrStops result start end ops
+appends_flushed (Ok x) start before mid buffer end ops empty gathered grows flushed some =
+    record { text = flushed ∙ all_flushed start before mid buffer ops empty gathered; nonempty = tt }
+appends_flushed (Err e) start before mid buffer end ops empty gathered grows flushed some = record {
+  text = tt;
+  nonempty =
+      let more = some refl in
+      some_among start mid buffer [] [] (bytes_of_all ops)
+      (append-nil (buffered_text mid buffer) ∙ all_flushed start before mid buffer ops empty gathered) grows
+      (omega (arith, more));
 }
 
 -- A text is nonempty if a part after its first part is nonempty.

@@ -18,7 +18,7 @@ use crate::form::{Form, run_count, shifts};
 use crate::passing::{next_other, stands_at};
 use crate::pen::Pen;
 use crate::picture_row::PictureRow;
-use vt_cells::term::{BufWrite, ClearRowForward, EraseChar};
+use vt_cells::term::{ClearRowForward, EraseChar};
 use vt_cells::{Attrs, Buffer, Cell, Pos, Sink, cell};
 
 /// The free space, in bytes, that a buffer must have before a glyph or a run of blanks is appended:
@@ -60,9 +60,9 @@ pub fn print_at<S: Sink>(sink: &mut S, pen: &mut Pen, pos: Pos, cell: &Cell) -> 
     ensures ops { AppendsOrStops result (S.text sink.old) (S.text sink.new) (glyph_ops pen.old pos cell.now) }
     ensures pen { OnOk result (pen.new ≡ pen_in pen.old.form pos.row pos.col (attrs_of cell.now)) }
 {
-    pen.move_to(sink, pos)?;
-    pen.change_attrs(sink, cell::attrs(cell))?;
-    write_text(sink, cell.contents())
+    let mut buffer = Buffer::new();
+    gather_at(sink, &mut buffer, pen, pos, cell)?;
+    buffer.flush(sink)
 }
 
 /// Buffers the output that prints the glyph `cell` at position `pos`. Afterward, the pen is still
@@ -132,30 +132,6 @@ fn gather_byte<S: Sink>(
     Ok(())
 }
 
-/// Writes the sequence that erases `count` columns (ECH), or the rest of the row (EL) if the columns
-/// extend to its end. `end` is the column after the erased columns.
-#[tactic(auto, using(crate::proofs::Filling::erase_run_counted))]
-fn write_erase<S: Sink>(
-    sink: &mut S,
-    form: Form,
-    count: u16,
-    end: u16,
-    over: &PictureRow<'_>,
-) -> Result<(), S::Error>
-    requires inside { end ≤ length over.now.cells }
-    requires order { count ≤ end }
-    ensures text { OnOk result
-        (S.text sink.new ≡ S.text sink.old ++ bytes_of (erase_run form count (drop end over.now.cells))) }
-    ensures nonempty { RefusedOnlyIfSome result (bytes_of (erase_run form count (drop end over.now.cells))) }
-{
-    if end == over.cols() {
-        ClearRowForward.write_buf(sink)
-    } else {
-        let count = run_count(form, count, end, over);
-        EraseChar { count }.write_buf(sink)
-    }
-}
-
 /// Writes `count` blanks with attributes `attrs` at a position. The pen remains at the first one.
 ///
 /// # Errors
@@ -174,10 +150,9 @@ pub fn write_run<S: Sink>(
     ensures ops { AppendsOrStops result (S.text sink.old) (S.text sink.new) (run_ops pen.old pos attrs count over.now) }
     ensures pen { OnOk result (pen.new ≡ pen_in pen.old.form pos.row pos.col attrs) }
 {
-    pen.move_to(sink, pos)?;
-    pen.change_attrs(sink, attrs)?;
-    let end = pos.col + count;
-    write_erase(sink, pen.form, count, end, over)
+    let mut buffer = Buffer::new();
+    gather_run(sink, &mut buffer, pen, pos, attrs, count, over)?;
+    buffer.flush(sink)
 }
 
 /// Appends to `buffer` the sequence that erases `count` columns (ECH), or the rest of the row (EL)

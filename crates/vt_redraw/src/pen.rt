@@ -9,7 +9,7 @@ ghost use Rattle.vt_redraw.specs.Script.{attr_ops, attr_ops_in, move_ops, is_at,
 ghost use Rattle.vt_redraw.specs.declared.form.Form.TheVariants.{Portable};
 
 use crate::form::{Form, resets};
-use vt_cells::term::{BufWrite, ChangeAttrs, MoveFromTo, MoveTo};
+use vt_cells::term::{BufWrite, ChangeAttrs, MoveFromTo};
 use vt_cells::{Attrs, Buffer, Pos, Sink};
 
 /// The position of the terminal's cursor, the terminal's attributes, and the form of the output.
@@ -87,24 +87,14 @@ impl Pen {
 
     /// Moves the pen to a position, and writes the cursor movement.
     #[inline(never)]
-    #[tactic(auto, unfolding(crate::specs::Script::move_ops))]
+    #[tactic(auto, unfolding(vt_cells::specs::Internals::buffered_text))]
     fn jump<S: Sink>(&mut self, sink: &mut S, to: Pos) -> Result<(), S::Error>
         ensures ops { AppendsOrStops result (S.text sink.old) (S.text sink.new) (move_ops self.old to.row to.col) }
         ensures pen { OnOk result (self.new ≡ pen_in self.old.form to.row to.col self.old.attrs) }
     {
-        if self.is_shifted {
-            MoveTo { pos: to }.write_buf(sink)?;
-            self.is_shifted = false;
-        } else {
-            let from = Pos {
-                row: self.row,
-                col: self.col,
-            };
-            MoveFromTo { from, to }.write_buf(sink)?;
-        }
-        self.row = to.row;
-        self.col = to.col;
-        Ok(())
+        let mut buffer = Buffer::new();
+        self.push_jump(&mut buffer, to);
+        buffer.flush(sink)
     }
 
     /// Changes the pen's attributes to `new`, and writes the SGR sequence for the change, or
