@@ -35,7 +35,7 @@ use Rattle.vt_redraw.proofs.PortableParts.{moves_portably}
 use Rattle.vt_redraw.proofs.PortableParts.{nothing_portably, portably_both, some_columns}
 use Rattle.vt_redraw.proofs.PortableSteps.{erase_keeps}
 use Rattle.vt_redraw.proofs.Row.{cells_draw}
-use Rattle.vt_redraw.proofs.Rows.{PrintsRow, Stands, ends_unwrapped, fell, flags_end, link_same, step_joins}
+use Rattle.vt_redraw.proofs.Rows.{PrintsRow, Stands, ends_unwrapped, fell, flags_end, link_same, same_wrapped, step_joins}
 use Rattle.vt_redraw.proofs.Texts.{Prints}
 
 -- ---- the break
@@ -202,10 +202,6 @@ row_portably base done below x y o r k height pen flag is whole reads e rows w h
     reads e rows w h (subst (Sound cells.flag) all drawn.sound) prints drawn.within)
 
 -- ---- rows in sequence
-
-same_wrapped : (on wrapped : Bool) → wrapped ≡ false → (on ≡ true → wrapped ≡ true) → on ≡ wrapped
-same_wrapped true wrapped h k = sym (k refl)
-same_wrapped false wrapped h k = sym h
 
 below_portably : (base : Canvas) (xs ys done : List RowValue) (above other : RowValue) (on : Bool) (r height : ℕ)
     (pen : Pen) → pen.form ≡ Portable → Reads base height base.page.width → length done ≡ r →

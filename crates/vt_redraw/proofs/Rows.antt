@@ -57,9 +57,10 @@ drew_after : (May : ℕ → ℕ → Type 0) (ops : List Op) (w : Scripted)
 drew_after May ops w base a b rows height h k =
     record { draws = in_then May ops w.ops a b (at_pen base rows w.pen) h k.draws; within = k.within }
 
-same_flag : (on wrapped : Bool) → wrapped ≡ false → (on ≡ true → wrapped ≡ true) → on ≡ wrapped
-same_flag true wrapped h k = sym (k refl)
-same_flag false wrapped h k = sym h
+-- A row of the terminal that is wrapped only if the row of the picture is, which is not, is not wrapped either.
+pub same_wrapped : (on wrapped : Bool) → wrapped ≡ false → (on ≡ true → wrapped ≡ true) → on ≡ wrapped
+same_wrapped true wrapped h k = sym (k refl)
+same_wrapped false wrapped h k = sym h
 
 pub step_joins : (May : ℕ → ℕ → Type 0) (base : Canvas) (done below : List RowValue)
     (above x y : RowValue) (on : Bool) (r height : ℕ) (pen : Pen) →
@@ -85,7 +86,7 @@ step_joins May base done below above x y on r height pen reads
     (λ d. let m = near (by_cases t d) in (m.lets, m.begin, m.second))))
     (λ (t : above.wrapped ≡ false).
     no_join May base done below above.cells x.cells y.cells on above.wrapped y.wrapped pen height
-    (same_flag on above.wrapped t keeps) (hx.columns ∙ sym hy.columns) hx.paired hy.paired hy.sound within)
+    (same_wrapped on above.wrapped t keeps) (hx.columns ∙ sym hy.columns) hx.paired hy.paired hy.sound within)
   where
     by_cases : above.wrapped ≡ true → (on ≡ false) ⊎ (x.cells ≢ y.cells) →
         ((on ≡ false) × (above.wrapped ≡ true)) ⊎ (x ≢ y)
@@ -174,7 +175,7 @@ below_draw May base [] [] done above other on r height pen reads e rows
       draws = record {
         draws =
             ap (λ (z : Bool). Some (at_pen base (done ++ row_of above.cells z ∷ []) pen))
-            (same_flag on above.wrapped last keeps);
+            (same_wrapped on above.wrapped last keeps);
         touches = tt;
       };
       within = within;
