@@ -92,6 +92,10 @@ fn begins_cut(cells: &[Cell]) -> bool
 ///
 /// Most cells belong to runs of letters, of wide characters or of blanks. Each kind of run has its
 /// own loop.
+///
+/// # Errors
+///
+/// Returns the sink's error. Part of the text may have been written by then.
 #[inline(always)]
 fn write_shown<S: Sink>(sink: &mut S, buffer: &mut Buffer, cells: &[Cell]) -> Result<(), S::Error>
     ensures text { OnOk result

@@ -70,6 +70,11 @@ impl Grid {
     }
 
     /// Prints a character that takes one column, as [`Grid::print_columns`] does.
+    ///
+    /// # Errors
+    ///
+    /// Returns [`Error::OutOfMemory`] if memory for scrollback cannot be allocated. On error,
+    /// nothing is changed and no row is reported.
     #[inline(always)]
     fn print_narrow<L: Leaving>(
         &mut self,
@@ -91,6 +96,11 @@ impl Grid {
 
     /// Wraps to the next row if fewer than `columns` columns are left on the cursor's row, unless
     /// the cursor is in column 0.
+    ///
+    /// # Errors
+    ///
+    /// Returns [`Error::OutOfMemory`] if memory for scrollback cannot be allocated. On error,
+    /// nothing is changed and no row is reported.
     #[tactic(auto, unfolding(crate::specs::Printing::room_made))]
     #[inline(always)]
     fn make_room<L: Leaving>(
@@ -112,6 +122,11 @@ impl Grid {
 
     /// Prints a combining character by adding it to the glyph before the cursor. Does nothing in
     /// column 0.
+    ///
+    /// # Errors
+    ///
+    /// Returns [`Error::OutOfMemory`] if memory for scrollback cannot be allocated. On error,
+    /// nothing is changed and no row is reported.
     #[inline(never)]
     fn print_mark<L: Leaving>(
         &mut self,
@@ -277,6 +292,11 @@ impl Grid {
     ///
     /// The glyph is removed before the wrap: on a page of one row, the row scrolls off during the
     /// wrap and must not contain the glyph. If the wrap fails, the glyph is put back.
+    ///
+    /// # Errors
+    ///
+    /// Returns [`Error::OutOfMemory`] if memory for scrollback cannot be allocated. On error,
+    /// nothing is changed and no row is reported.
     fn carry<L: Leaving>(
         &mut self,
         mark: char,
@@ -372,6 +392,11 @@ impl Grid {
 
     /// Prints a character that takes two columns, as [`Grid::print_columns`] does. Prints nothing
     /// on a page of one column.
+    ///
+    /// # Errors
+    ///
+    /// Returns [`Error::OutOfMemory`] if memory for scrollback cannot be allocated. On error,
+    /// nothing is changed and no row is reported.
     #[inline(always)]
     fn print_wide<L: Leaving>(
         &mut self,

@@ -191,6 +191,11 @@ impl Grid {
 
     /// Moves the rows of the page into `fresh`, a new page of default blanks, and adopts its size,
     /// as [`Grid::set_size`] describes.
+    ///
+    /// # Errors
+    ///
+    /// Returns [`Error::OutOfMemory`] if memory for scrollback cannot be allocated. On error,
+    /// nothing is changed and no row is reported.
     fn fill<L: Leaving>(
         &mut self,
         fresh: PageRows,

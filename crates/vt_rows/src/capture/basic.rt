@@ -51,6 +51,10 @@ impl RowContents<'_> {
 }
 
 /// Writes `\n` if `is_due` is true.
+///
+/// # Errors
+///
+/// Returns the sink's error.
 fn write_line_end<S: Sink>(sink: &mut S, is_due: bool) -> Result<(), S::Error>
     ensures text { OnOk result (S.text sink.new ≡ S.text sink.old ++ (if is_due then 0x0A ∷ [] else [])) }
     ensures stopped { OnErr result
@@ -62,6 +66,10 @@ fn write_line_end<S: Sink>(sink: &mut S, is_due: bool) -> Result<(), S::Error>
 
 /// Writes the text of `cells`, with an SGR sequence wherever the attributes change. `attrs` are the
 /// attributes in effect before the text. Returns the attributes in effect after it.
+///
+/// # Errors
+///
+/// Returns the sink's error. Part of the output may have been written by then.
 #[tactic(auto, using(vt_cells::proofs::Sinks::nothing_gathered))]
 fn write_cells<S: Sink>(sink: &mut S, cells: &[Cell], attrs: Attrs) -> Result<Attrs, S::Error>
     ensures text { OnOk result (S.text sink.new ≡ S.text sink.old ++ cells_text attrs cells.now) }
@@ -85,6 +93,10 @@ fn write_cells<S: Sink>(sink: &mut S, cells: &[Cell], attrs: Attrs) -> Result<At
 ///
 /// A default blank is written without a change of attributes. Nothing is appended for a
 /// continuation cell.
+///
+/// # Errors
+///
+/// Returns the sink's error. Part of the output may have been written by then.
 #[inline]
 #[tactic(auto, using(crate::proofs::RowTexts::right_adds, crate::proofs::RowTexts::right_keeps))]
 fn add_cell<S: Sink>(
