@@ -274,41 +274,41 @@ difference_local self prev any is steady other size plain e =
 
 -- The last glyph of a row can be printed again, wherever the cursor is.
 printed_again : (May : ℕ → ℕ → Type 0) (base : Canvas) (done below : List RowValue)
-    (xs : List CellValue) (flag : Bool) (r : ℕ) (pen : Pen) →
+    (xs : List CellValue) (wrapped : Bool) (r : ℕ) (pen : Pen) →
     base.page.origin ≡ false → length done ≡ r → length xs ≡ base.page.width →
     Paired xs → ends xs ≡ false → PrintsCells base.page.width xs →
     ((k : ℕ) → last_column xs ≤ k → k < base.page.width → May r k) →
     DrawsIn May (MoveTo r (last_column xs)
     ∷ (attr_ops_in pen.form pen.attrs (attrs_of (last_glyph xs)) ++ Print (text_of (last_glyph xs)) ∷ []))
-    (mid base done below xs flag pen)
-    (mid base done below xs flag (pen_at r base.page.width (attrs_of (last_glyph xs))))
-printed_again May base done below xs flag r pen origin e w h full prints may =
+    (mid base done below xs wrapped pen)
+    (mid base done below xs wrapped (pen_at r base.page.width (attrs_of (last_glyph xs))))
+printed_again May base done below xs wrapped r pen origin e w h full prints may =
     last_cases
     (λ z k x. PrintsCells base.page.width z → length z ≡ base.page.width →
-    Sound flag z → ((j : ℕ) → k ≤ j → j < base.page.width → May r j) →
+    Sound wrapped z → ((j : ℕ) → k ≤ j → j < base.page.width → May r j) →
     DrawsIn May (MoveTo r k ∷ (attr_ops_in pen.form pen.attrs (attrs_of x) ++ Print (text_of x) ∷ []))
-    (mid base done below z flag pen) (mid base done below z flag (pen_at r base.page.width (attrs_of x))))
+    (mid base done below z wrapped pen) (mid base done below z wrapped (pen_at r base.page.width (attrs_of x))))
     (λ pre text wide a front p size sound mays.
     let n = length_glyph pre text wide a in
     let one = some_columns wide in
     let row = pre ++ glyph_cells text wide a in
-    let rows = done ++ row_of row flag ∷ below in
-    let count = length-append done (row_of row flag ∷ below) in
+    let rows = done ++ row_of row wrapped ∷ below in
+    let count = length-append done (row_of row wrapped ∷ below) in
     let c = length pre in
-    let m0 = mid base done below row flag pen in
-    let m1 = mid base done below row flag (pen_at r c pen.attrs) in
-    let m2 = mid base done below row flag (pen_at r c a) in
-    let m3 = mid base done below row flag (pen_at r base.page.width a) in
+    let m0 = mid base done below row wrapped pen in
+    let m1 = mid base done below row wrapped (pen_at r c pen.attrs) in
+    let m2 = mid base done below row wrapped (pen_at r c a) in
+    let m3 = mid base done below row wrapped (pen_at r base.page.width a) in
     in_then May (MoveTo r c ∷ []) (attr_ops_in pen.form pen.attrs a ++ Print text ∷ []) m0 m1 m3
     (quiet_in May (MoveTo r c ∷ []) m0 m1 (refl, tt)
     (move_to_draws base rows pen r c origin (omega arith) (omega arith)))
     (in_then May (attr_ops_in pen.form pen.attrs a) (Print text ∷ []) m1 m2 m3
     (quiet_in May (attr_ops_in pen.form pen.attrs a) m1 m2 (changing_quiet pen.form pen.attrs a)
     (changing_draws pen.form base rows (pen_at r c pen.attrs) a))
-    (in_to May (Print text ∷ []) m2 (mid base done below row flag (pen_at r (c + glyph_columns wide) a)) m3
-    (print_again May base done below pre text wide a flag r
+    (in_to May (Print text ∷ []) m2 (mid base done below row wrapped (pen_at r (c + glyph_columns wide) a)) m3
+    (print_again May base done below pre text wide a wrapped r
     (prints_last base.page.width pre text wide a p) e (sym n ∙ size) front sound mays)
-    (ap (λ (k : ℕ). mid base done below row flag (pen_at r k a)) (sym n ∙ size)))))
+    (ap (λ (k : ℕ). mid base done below row wrapped (pen_at r k a)) (sym n ∙ size)))))
     xs h full prints w (λ _. full) may
   where
     some_columns : (wide : Bool) → 0 < glyph_columns wide

@@ -147,32 +147,32 @@ changing_draws form base rows pen attrs =
 -- ==== One row of the terminal among its rows, changed at a boundary between whole cells.
 
 abbrev pub row_of : List CellValue → Bool → RowValue
-row_of cells flag = record { cells = cells; wrapped = flag }
+row_of cells wrapped = record { cells = cells; wrapped = wrapped }
 
 -- A canvas that has the given cells and wrapped flag in one row, between the rows `done` and `below`.
 abbrev pub mid : Canvas → (done below : List RowValue) → List CellValue → Bool → Pen → Canvas
-mid base done below cells flag pen = at_pen base (done ++ row_of cells flag ∷ below) pen
+mid base done below cells wrapped pen = at_pen base (done ++ row_of cells wrapped ∷ below) pen
 
-pub cursor_row_is : (base : Canvas) (done below : List RowValue) (cells : List CellValue) (flag : Bool) (pen : Pen) →
+pub cursor_row_is : (base : Canvas) (done below : List RowValue) (cells : List CellValue) (wrapped : Bool) (pen : Pen) →
     length done ≡ pen.row →
-    cursor_row (mid base done below cells flag pen).page ≡ row_of cells flag
-cursor_row_is base done below cells flag pen e =
-    get_or_at done (row_of cells flag) below (blank_row default_attrs base.page.width) pen.row e
+    cursor_row (mid base done below cells wrapped pen).page ≡ row_of cells wrapped
+cursor_row_is base done below cells wrapped pen e =
+    get_or_at done (row_of cells wrapped) below (blank_row default_attrs base.page.width) pen.row e
 
 pub edited_at : (base : Canvas) (done below : List RowValue) (cells : List CellValue)
-    (flag : Bool) (pen : Pen) (f : List CellValue → List CellValue) (new : List CellValue) →
+    (wrapped : Bool) (pen : Pen) (f : List CellValue → List CellValue) (new : List CellValue) →
     length done ≡ pen.row → f cells ≡ new →
-    with_cursor_cells (f (cursor_row (mid base done below cells flag pen).page).cells)
-    (mid base done below cells flag pen).page
-    ≡ (mid base done below new (kept flag new) pen).page
-edited_at base done below cells flag pen f new e h =
-    let page = (mid base done below cells flag pen).page in
+    with_cursor_cells (f (cursor_row (mid base done below cells wrapped pen).page).cells)
+    (mid base done below cells wrapped pen).page
+    ≡ (mid base done below new (kept wrapped new) pen).page
+edited_at base done below cells wrapped pen f new e h =
+    let page = (mid base done below cells wrapped pen).page in
     ap (λ (row : RowValue). with_row pen.row (with_cells row (f row.cells)) page)
-    (cursor_row_is base done below cells flag pen e)
-    ∙ (ap (λ (z : List CellValue). with_row pen.row (with_cells (row_of cells flag) z) page) h
-    ∙ (ap (λ (b : Bool). with_row pen.row (row_of new (flag && not b)) page) (ends_is new)
+    (cursor_row_is base done below cells wrapped pen e)
+    ∙ (ap (λ (z : List CellValue). with_row pen.row (with_cells (row_of cells wrapped) z) page) h
+    ∙ (ap (λ (b : Bool). with_row pen.row (row_of new (wrapped && not b)) page) (ends_is new)
     ∙ ap (λ (rows : List RowValue). record page { rows = rows })
-    (set_at done (row_of cells flag) below (row_of new (kept flag new)) pen.row e)))
+    (set_at done (row_of cells wrapped) below (row_of new (kept wrapped new)) pen.row e)))
 
 -- ---- a glyph
 
@@ -186,20 +186,21 @@ orphan false attrs = glyph (0x20 ∷ []) false attrs
 orphan true attrs = blank attrs
 
 pub glyph_put_at : (base : Canvas) (done below : List RowValue) (pre rest : List CellValue)
-    (flag : Bool) (r c : ℕ) (text : List ℕ) (wide : Bool) (attrs : Attrs) →
+    (wrapped : Bool) (r c : ℕ) (text : List ℕ) (wide : Bool) (attrs : Attrs) →
     length done ≡ r → length pre ≡ c → Paired pre →
-    glyph_put text wide attrs (mid base done below (pre ++ rest) flag (pen_at r c attrs)).page
+    glyph_put text wide attrs (mid base done below (pre ++ rest) wrapped (pen_at r c attrs)).page
     ≡ (mid base done below
     (pre ++ (glyph_cells text wide attrs ++ cells_after_cut (orphan wide attrs) (drop (glyph_columns wide) rest)))
-    (kept flag (pre ++ (glyph_cells text wide attrs ++ cells_after_cut (orphan wide attrs) (drop (glyph_columns wide) rest))))
+    (kept wrapped (pre ++ (glyph_cells text wide attrs ++ cells_after_cut (orphan wide attrs)
+    (drop (glyph_columns wide) rest))))
     (pen_at r (c + glyph_columns wide) attrs)).page
-glyph_put_at base done below pre rest flag r c text false attrs e l h =
+glyph_put_at base done below pre rest wrapped r c text false attrs e l h =
     ap (λ (page : Page). record page { column = c + 1 })
-    (edited_at base done below (pre ++ rest) flag (pen_at r c attrs) (put_narrow c text attrs)
+    (edited_at base done below (pre ++ rest) wrapped (pen_at r c attrs) (put_narrow c text attrs)
     _ e (put_at pre rest (glyph text false attrs ∷ []) (glyph (0x20 ∷ []) false attrs) c 1 l h))
-glyph_put_at base done below pre rest flag r c text true attrs e l h =
+glyph_put_at base done below pre rest wrapped r c text true attrs e l h =
     ap (λ (page : Page). record page { column = c + 2 })
-    (edited_at base done below (pre ++ rest) flag (pen_at r c attrs) (put_wide c text attrs)
+    (edited_at base done below (pre ++ rest) wrapped (pen_at r c attrs) (put_wide c text attrs)
     _ e (put_at pre rest (glyph text true attrs ∷ right_half ∷ []) (blank attrs) c 2 l h))
 
 pub room_there : (n : ℕ) (page : Page) → page.column + n ≤ page.width → lacks_room n page ≡ false
@@ -212,97 +213,103 @@ room_is n page h = rw (room_there n page h) refl
 -- ---- a run of blanks
 
 erased_at : (base : Canvas) (done below : List RowValue)
-    (pre rest : List CellValue) (flag : Bool) (r c n : ℕ) (attrs : Attrs) →
+    (pre rest : List CellValue) (wrapped : Bool) (r c n : ℕ) (attrs : Attrs) →
     length done ≡ r → length pre ≡ c → Paired pre →
-    erased_columns c n attrs (mid base done below (pre ++ rest) flag (pen_at r c attrs)).page
+    erased_columns c n attrs (mid base done below (pre ++ rest) wrapped (pen_at r c attrs)).page
     ≡ (mid base done below (pre ++ (blanks attrs n ++ cells_after_cut default_blank (drop n rest)))
-    (kept flag (pre ++ (blanks attrs n ++ cells_after_cut default_blank (drop n rest)))) (pen_at r c attrs)).page
-erased_at base done below pre rest flag r c n attrs e l h =
-    edited_at base done below (pre ++ rest) flag (pen_at r c attrs)
+    (kept wrapped (pre ++ (blanks attrs n ++ cells_after_cut default_blank (drop n rest)))) (pen_at r c attrs)).page
+erased_at base done below pre rest wrapped r c n attrs e l h =
+    edited_at base done below (pre ++ rest) wrapped (pen_at r c attrs)
     (cells_after_erase c n attrs) _ e (put_at pre rest (blanks attrs n) default_blank c n l h)
 
 pub chars_erased : (base : Canvas) (done below : List RowValue)
-    (pre rest : List CellValue) (flag : Bool) (r c n : ℕ) (attrs : Attrs) →
+    (pre rest : List CellValue) (wrapped : Bool) (r c n : ℕ) (attrs : Attrs) →
     length done ≡ r → length pre ≡ c → c + suc n ≤ base.page.width → Paired pre →
-    Draws (EraseChars (suc n) ∷ []) (mid base done below (pre ++ rest) flag (pen_at r c attrs))
+    Draws (EraseChars (suc n) ∷ []) (mid base done below (pre ++ rest) wrapped (pen_at r c attrs))
     (mid base done below (pre ++ (blanks attrs (suc n) ++ cells_after_cut default_blank (drop (suc n) rest)))
-    (kept flag (pre ++ (blanks attrs (suc n) ++ cells_after_cut default_blank (drop (suc n) rest)))) (pen_at r c attrs))
+    (kept wrapped (pre ++ (blanks attrs (suc n) ++ cells_after_cut default_blank (drop (suc n) rest))))
+    (pen_at r c attrs))
 unfolding erased_chars
-chars_erased base done below pre rest flag r c n attrs e l fits h =
-    let start = mid base done below (pre ++ rest) flag (pen_at r c attrs) in
+chars_erased base done below pre rest wrapped r c n attrs e l fits h =
+    let start = mid base done below (pre ++ rest) wrapped (pen_at r c attrs) in
     let s : (c == base.page.width) ≡ false = ne_eqb c base.page.width (λ same. omega arith) in
     let some : (suc n == 0) ≡ false = ne_eqb (suc n) 0 (λ same. omega arith) in
     let m : min (suc n) (base.page.width - c) ≡ suc n = omega arith in
     rw (some, s, m) (ap (λ (page : Page). Some (record start { page = page }))
-    (erased_at base done below pre rest flag r c (suc n) attrs e l h))
+    (erased_at base done below pre rest wrapped r c (suc n) attrs e l h))
 
 pub rest_erased : (base : Canvas) (done below : List RowValue)
-    (pre rest : List CellValue) (flag : Bool) (r c n : ℕ) (attrs : Attrs) →
+    (pre rest : List CellValue) (wrapped : Bool) (r c n : ℕ) (attrs : Attrs) →
     length done ≡ r → length pre ≡ c → c + suc n ≡ base.page.width → Paired pre →
-    Draws (EraseRest ∷ []) (mid base done below (pre ++ rest) flag (pen_at r c attrs))
+    Draws (EraseRest ∷ []) (mid base done below (pre ++ rest) wrapped (pen_at r c attrs))
     (mid base done below (pre ++ (blanks attrs (suc n) ++ cells_after_cut default_blank (drop (suc n) rest)))
-    (kept flag (pre ++ (blanks attrs (suc n) ++ cells_after_cut default_blank (drop (suc n) rest)))) (pen_at r c attrs))
+    (kept wrapped (pre ++ (blanks attrs (suc n) ++ cells_after_cut default_blank (drop (suc n) rest))))
+    (pen_at r c attrs))
 unfolding erased_rest
-rest_erased base done below pre rest flag r c n attrs e l fits h =
-    let start = mid base done below (pre ++ rest) flag (pen_at r c attrs) in
+rest_erased base done below pre rest wrapped r c n attrs e l fits h =
+    let start = mid base done below (pre ++ rest) wrapped (pen_at r c attrs) in
     let s : (c == base.page.width) ≡ false = ne_eqb c base.page.width (λ same. omega arith) in
     let m : base.page.width - c ≡ suc n = omega arith in
     rw (s, m) (ap (λ (page : Page). Some (record start { page = page }))
-    (erased_at base done below pre rest flag r c (suc n) attrs e l h))
+    (erased_at base done below pre rest wrapped r c (suc n) attrs e l h))
 
 -- A run of blanks can be erased, up to the end of the row or with more columns after it.
 pub run_erased : (base : Canvas) (done below : List RowValue)
-    (pre rest more : List CellValue) (flag : Bool) (r c n : ℕ) (attrs : Attrs) →
+    (pre rest more : List CellValue) (wrapped : Bool) (r c n : ℕ) (attrs : Attrs) →
     length done ≡ r → length pre ≡ c → c + (suc n + length more) ≡ base.page.width → Paired pre →
-    Draws (erase_run Fixed (suc n) more ∷ []) (mid base done below (pre ++ rest) flag (pen_at r c attrs))
+    Draws (erase_run Fixed (suc n) more ∷ []) (mid base done below (pre ++ rest) wrapped (pen_at r c attrs))
     (mid base done below (pre ++ (blanks attrs (suc n) ++ cells_after_cut default_blank (drop (suc n) rest)))
-    (kept flag (pre ++ (blanks attrs (suc n) ++ cells_after_cut default_blank (drop (suc n) rest)))) (pen_at r c attrs))
-run_erased base done below pre rest [] flag r c n attrs e l fits h =
-    rest_erased base done below pre rest flag r c n attrs e l (omega arith) h
-run_erased base done below pre rest (y ∷ more) flag r c n attrs e l fits h =
-    chars_erased base done below pre rest flag r c n attrs e l (omega arith) h
+    (kept wrapped (pre ++ (blanks attrs (suc n) ++ cells_after_cut default_blank (drop (suc n) rest))))
+    (pen_at r c attrs))
+run_erased base done below pre rest [] wrapped r c n attrs e l fits h =
+    rest_erased base done below pre rest wrapped r c n attrs e l (omega arith) h
+run_erased base done below pre rest (y ∷ more) wrapped r c n attrs e l fits h =
+    chars_erased base done below pre rest wrapped r c n attrs e l (omega arith) h
 
 -- ---- a wrap into the next row
 
 -- A canvas that has two given rows between the rows `done` and `below`.
 abbrev pub two : Canvas → (done below : List RowValue) → (above : List CellValue) →
-    (on : Bool) → (cells : List CellValue) → (flag : Bool) → Pen → Canvas
-two base done below above on cells flag pen = at_pen base (done ++ row_of above on ∷ row_of cells flag ∷ below) pen
+    (wrapped_above : Bool) → (cells : List CellValue) → (wrapped : Bool) → Pen → Canvas
+two base done below above wrapped_above cells wrapped pen = at_pen base
+    (done ++ row_of above wrapped_above ∷ row_of cells wrapped ∷ below) pen
 
 pub two_mid : (base : Canvas) (done below : List RowValue) (above : List CellValue)
-    (on : Bool) (cells : List CellValue) (flag : Bool) (pen : Pen) →
-    two base done below above on cells flag pen ≡ mid base (done ++ row_of above on ∷ []) below cells flag pen
-two_mid base done below above on cells flag pen =
+    (wrapped_above : Bool) (cells : List CellValue) (wrapped : Bool) (pen : Pen) →
+    two base done below above wrapped_above cells wrapped pen ≡ mid base (done ++ row_of above wrapped_above ∷ []) below
+    cells wrapped pen
+two_mid base done below above wrapped_above cells wrapped pen =
     ap (λ (rows : List RowValue). at_pen base rows pen)
-    (sym (append_assoc done (row_of above on ∷ []) (row_of cells flag ∷ below)))
+    (sym (append_assoc done (row_of above wrapped_above ∷ []) (row_of cells wrapped ∷ below)))
 
 pub not_bottom : (base : Canvas) (done below : List RowValue)
-    (above : List CellValue) (on : Bool) (y : RowValue) (r : ℕ) →
+    (above : List CellValue) (wrapped_above : Bool) (y : RowValue) (r : ℕ) →
     length done ≡ r → base.page.bottom + 1 ≡ length done + suc (suc (length below)) → (r == base.page.bottom) ≡ false
-not_bottom base done below above on y r e b = ne_eqb r base.page.bottom (λ same. omega arith)
+not_bottom base done below above wrapped_above y r e b = ne_eqb r base.page.bottom (λ same. omega arith)
 
 pub wraps : (base : Canvas) (done below : List RowValue) (above : List CellValue)
-    (on : Bool) (cells : List CellValue) (flag : Bool) (r c : ℕ) (attrs : Attrs) →
+    (wrapped_above : Bool) (cells : List CellValue) (wrapped : Bool) (r c : ℕ) (attrs : Attrs) →
     length done ≡ r → base.page.bottom + 1 ≡ length done + suc (suc (length below)) →
-    wrapped_page (two base done below above on cells flag (pen_at r c attrs)).page
-    ≡ (two base done below above (not (ends above)) cells flag (pen_at (r + 1) 0 attrs)).page
+    wrapped_page (two base done below above wrapped_above cells wrapped (pen_at r c attrs)).page
+    ≡ (two base done below above (not (ends above)) cells wrapped (pen_at (r + 1) 0 attrs)).page
 unfolding wrapped_page line_feed
-wraps base done below above on cells flag r c attrs e b =
-    let rows = done ++ row_of above on ∷ row_of cells flag ∷ below in
-    let page = (two base done below above on cells flag (pen_at r c attrs)).page in
+wraps base done below above wrapped_above cells wrapped r c attrs e b =
+    let rows = done ++ row_of above wrapped_above ∷ row_of cells wrapped ∷ below in
+    let page = (two base done below above wrapped_above cells wrapped (pen_at r c attrs)).page in
     let down = record page { row = r + 1 } in
-    let s = not_bottom base done below above on (row_of cells flag) r e b in
-    let l = length-append done (row_of above on ∷ row_of cells flag ∷ below) in
+    let s = not_bottom base done below above wrapped_above (row_of cells wrapped) r e b in
+    let l = length-append done (row_of above wrapped_above ∷ row_of cells wrapped ∷ below) in
     let m : nat_lt (r + 1) (length rows) ≡ true = lt-ltb (r + 1) (length rows) (omega arith) in
-    let here : row_at page r ≡ row_of above on =
-    get_or_at done (row_of above on) (row_of cells flag ∷ below) (blank_row default_attrs base.page.width) r e in
+    let here : row_at page r ≡ row_of above wrapped_above =
+    get_or_at done (row_of above wrapped_above) (row_of cells wrapped ∷ below)
+    (blank_row default_attrs base.page.width) r e in
     rw (s, m) (
     ap (λ (row : RowValue). record (with_row r (record row { wrapped = not (ends_blank row.cells) }) down)
     { column = 0 })
     here
     ∙ (ap (λ (t : Bool). record (with_row r (row_of above (not t)) down) { column = 0 }) (ends_is above)
     ∙ ap (λ (z : List RowValue). record down { rows = z; column = 0 })
-    (set_at done (row_of above on) (row_of cells flag ∷ below) (row_of above (not (ends above))) r e)))
+    (set_at done (row_of above wrapped_above) (row_of cells wrapped ∷ below) (row_of above (not (ends above))) r e)))
 
 -- ==== Printing a glyph where there is room for it: its cells, the row's wrapped flag, and the cursor after it.
 
@@ -319,23 +326,24 @@ with_glyph pre text wide attrs ys =
 -- There is room for a glyph of the given width at a boundary, over the cells y and ys, the first of which may be an
 -- orphaned continuation cell.
 pub record Spot (base : Canvas) (done : List RowValue) (pre : List CellValue) (o y : CellValue)
-    (ys : List CellValue) (flag : Bool) (r c : ℕ) (wide : Bool) : Type 0 where
+    (ys : List CellValue) (wrapped : Bool) (r c : ℕ) (wide : Bool) : Type 0 where
   pub row : length done ≡ r
   pub col : length pre ≡ c
   pub fits : c + glyph_columns wide ≤ base.page.width
   pub front : Paired pre
-  pub sound : Sound flag (pre ++ cells_after_cut o (y ∷ ys))
+  pub sound : Sound wrapped (pre ++ cells_after_cut o (y ∷ ys))
 
 -- The canvas on which a glyph is about to be printed after the cells `pre`, over the cells y and ys.
 abbrev pub spot : Canvas → (done below : List RowValue) → (pre : List CellValue) →
     (o y : CellValue) → (ys : List CellValue) → Bool → (r c : ℕ) → Attrs → Canvas
-spot base done below pre o y ys flag r c attrs = mid base done below (pre ++ cells_after_cut o (y ∷ ys)) flag (pen_at r c attrs)
+spot base done below pre o y ys wrapped r c attrs = mid base done below (pre ++ cells_after_cut o (y ∷ ys)) wrapped
+    (pen_at r c attrs)
 
 abbrev pub put : Canvas → (done below : List RowValue) → (pre : List CellValue) →
     (ys : List CellValue) → Bool → (r c : ℕ) → (text : List ℕ) → (wide : Bool) → Attrs → Canvas
-put base done below pre ys flag r c text wide attrs =
+put base done below pre ys wrapped r c text wide attrs =
     mid base done below (with_glyph pre text wide attrs ys)
-    (wrapped_after_glyph flag wide (drop 1 ys)) (pen_at r (c + glyph_columns wide) attrs)
+    (wrapped_after_glyph wrapped wide (drop 1 ys)) (pen_at r (c + glyph_columns wide) attrs)
 
 narrow_flag : (f n t : Bool) → (f && not ((n && false) || (t && false))) ≡ (f && not false)
 narrow_flag f n t = grind (arith)
@@ -344,17 +352,17 @@ wide_flag : (f n t : Bool) → (f && not ((n && false) || (t && true))) ≡ (f &
 wide_flag f n t = grind (arith)
 
 pub glyph_flag : (pre : List CellValue) (o y : CellValue) (ys : List CellValue)
-    (flag : Bool) (text : List ℕ) (wide : Bool) (attrs : Attrs) →
-    Sound flag (pre ++ cells_after_cut o (y ∷ ys)) →
-    kept flag (with_glyph pre text wide attrs ys) ≡ wrapped_after_glyph flag wide (drop 1 ys)
-glyph_flag pre o y ys flag text false attrs sound =
+    (wrapped : Bool) (text : List ℕ) (wide : Bool) (attrs : Attrs) →
+    Sound wrapped (pre ++ cells_after_cut o (y ∷ ys)) →
+    kept wrapped (with_glyph pre text wide attrs ys) ≡ wrapped_after_glyph wrapped wide (drop 1 ys)
+glyph_flag pre o y ys wrapped text false attrs sound =
     flag_step pre (glyph text false attrs ∷ []) y ys (orphan false attrs)
-    o 0 flag false (ends_append pre (glyph text false attrs) []) sound
-    ∙ narrow_flag flag (is_nil ys) (is_torn ys)
-glyph_flag pre o y ys flag text true attrs sound =
+    o 0 wrapped false (ends_append pre (glyph text false attrs) []) sound
+    ∙ narrow_flag wrapped (is_nil ys) (is_torn ys)
+glyph_flag pre o y ys wrapped text true attrs sound =
     flag_step pre (glyph text true attrs ∷ right_half ∷ []) y ys (orphan true attrs)
-    o 1 flag false (ends_append pre (glyph text true attrs) (right_half ∷ [])) sound
-    ∙ wide_flag flag (is_nil (drop 1 ys)) (is_torn (drop 1 ys))
+    o 1 wrapped false (ends_append pre (glyph text true attrs) (right_half ∷ [])) sound
+    ∙ wide_flag wrapped (is_nil (drop 1 ys)) (is_torn (drop 1 ys))
 
 after_opened : (wide : Bool) (o y : CellValue) (ys : List CellValue) →
     drop (glyph_columns wide) (cells_after_cut o (y ∷ ys)) ≡ rest_after wide ys
@@ -362,18 +370,18 @@ after_opened false o y ys = drop_opened 0 o (y ∷ ys)
 after_opened true o y ys = drop_opened 1 o (y ∷ ys)
 
 pub glyph_put_here : (base : Canvas) (done below : List RowValue) (pre : List CellValue) (o y : CellValue)
-    (ys : List CellValue) (flag : Bool) (r c : ℕ) (text : List ℕ) (wide : Bool) (attrs : Attrs) →
-    Spot base done pre o y ys flag r c wide →
-    glyph_put text wide attrs (spot base done below pre o y ys flag r c attrs).page
-    ≡ (put base done below pre ys flag r c text wide attrs).page
-glyph_put_here base done below pre o y ys flag r c text wide attrs at =
+    (ys : List CellValue) (wrapped : Bool) (r c : ℕ) (text : List ℕ) (wide : Bool) (attrs : Attrs) →
+    Spot base done pre o y ys wrapped r c wide →
+    glyph_put text wide attrs (spot base done below pre o y ys wrapped r c attrs).page
+    ≡ (put base done below pre ys wrapped r c text wide attrs).page
+glyph_put_here base done below pre o y ys wrapped r c text wide attrs at =
     let pen = pen_at r (c + glyph_columns wide) attrs in
     let row = λ (rest : List CellValue). pre ++ (glyph_cells text wide attrs ++ cells_after_cut (orphan wide attrs) rest) in
-    glyph_put_at base done below pre (cells_after_cut o (y ∷ ys)) flag r c text wide attrs at.row at.col at.front
-    ∙ (ap (λ (rest : List CellValue). (mid base done below (row rest) (kept flag (row rest)) pen).page)
+    glyph_put_at base done below pre (cells_after_cut o (y ∷ ys)) wrapped r c text wide attrs at.row at.col at.front
+    ∙ (ap (λ (rest : List CellValue). (mid base done below (row rest) (kept wrapped (row rest)) pen).page)
     (after_opened wide o y ys)
     ∙ ap (λ (f : Bool). (mid base done below (with_glyph pre text wide attrs ys) f pen).page)
-    (glyph_flag pre o y ys flag text wide attrs at.sound))
+    (glyph_flag pre o y ys wrapped text wide attrs at.sound))
 
 -- ---- a character that takes columns
 
@@ -394,22 +402,22 @@ pub char_drawn-mark : (c : ℕ) (canvas : Canvas) (page : Page) → columns_of c
 char_drawn-mark c canvas page e f h = char_drawn c (Some 0) canvas page e f h
 
 pub first_drawn : (base : Canvas) (done below : List RowValue) (pre : List CellValue) (o y : CellValue)
-    (ys : List CellValue) (flag : Bool) (r c : ℕ) (first : ℕ) (wide : Bool) (attrs : Attrs) →
-    columns_of first ≡ Some (glyph_columns wide) → Spot base done pre o y ys flag r c wide →
-    drawn_char first (spot base done below pre o y ys flag r c attrs)
-    ≡ Some (put base done below pre ys flag r c (encode_utf8 first) wide attrs)
-first_drawn base done below pre o y ys flag r c first false attrs e at =
-    let start = spot base done below pre o y ys flag r c attrs in
+    (ys : List CellValue) (wrapped : Bool) (r c : ℕ) (first : ℕ) (wide : Bool) (attrs : Attrs) →
+    columns_of first ≡ Some (glyph_columns wide) → Spot base done pre o y ys wrapped r c wide →
+    drawn_char first (spot base done below pre o y ys wrapped r c attrs)
+    ≡ Some (put base done below pre ys wrapped r c (encode_utf8 first) wide attrs)
+first_drawn base done below pre o y ys wrapped r c first false attrs e at =
+    let start = spot base done below pre o y ys wrapped r c attrs in
     let fits = at.fits in
-    char_drawn first (Some 1) start (put base done below pre ys flag r c (encode_utf8 first) false attrs).page e
+    char_drawn first (Some 1) start (put base done below pre ys wrapped r c (encode_utf8 first) false attrs).page e
     (rw (room_there 1 start.page (omega arith)) refl)
     (ap (λ (page : Page). glyph_put (encode_utf8 first) false attrs page) (room_is 1 start.page (omega arith))
-    ∙ glyph_put_here base done below pre o y ys flag r c (encode_utf8 first) false attrs at)
-first_drawn base done below pre o y ys flag r c first true attrs e at =
-    let start = spot base done below pre o y ys flag r c attrs in
+    ∙ glyph_put_here base done below pre o y ys wrapped r c (encode_utf8 first) false attrs at)
+first_drawn base done below pre o y ys wrapped r c first true attrs e at =
+    let start = spot base done below pre o y ys wrapped r c attrs in
     let fits = at.fits in
     let two : nat_lt 1 base.page.width ≡ true = lt-ltb 1 base.page.width (omega arith) in
-    char_drawn first (Some 2) start (put base done below pre ys flag r c (encode_utf8 first) true attrs).page e
+    char_drawn first (Some 2) start (put base done below pre ys wrapped r c (encode_utf8 first) true attrs).page e
     (rw (two, room_there 2 start.page (omega arith)) refl)
     (rw two (ap (λ (page : Page). glyph_put (encode_utf8 first) true attrs page) (room_is 2 start.page (omega arith))
-    ∙ glyph_put_here base done below pre o y ys flag r c (encode_utf8 first) true attrs at))
+    ∙ glyph_put_here base done below pre o y ys wrapped r c (encode_utf8 first) true attrs at))

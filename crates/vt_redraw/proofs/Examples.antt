@@ -39,8 +39,8 @@ abbrev row : List CellValue → RowValue
 row cells = record { cells = cells; wrapped = false }
 
 -- A wrapped row.
-abbrev on : List CellValue → RowValue
-on cells = record { cells = cells; wrapped = true }
+abbrev wrapped_row : List CellValue → RowValue
+wrapped_row cells = record { cells = cells; wrapped = true }
 
 abbrev none : RowValue
 none = row (b ∷ b ∷ b ∷ b ∷ [])
@@ -64,7 +64,7 @@ red = record default_attrs { bgcolor = Idx 1 }
 -- ---- redraws
 
 -- The redraw of a wrapped row, a blank row below it and a third row, with the cursor on the blank row.
-blank_below : redraw (at 4 (on abcd ∷ none ∷ x_row ∷ []) 1 1)
+blank_below : redraw (at 4 (wrapped_row abcd ∷ none ∷ x_row ∷ []) 1 1)
     ≡ cleared
     (p 0x61 ∷ p 0x62 ∷ p 0x63 ∷ p 0x64 ∷ p 0x20 ∷ Backspace ∷ EraseChars 1 ∷ NextRow ∷ p 0x78 ∷ MoveTo 1 1 ∷ [])
 unfolding redraw_in script_in rows_written rows_below row_written cells_written row_link row_break
@@ -86,7 +86,7 @@ pending_blank = refl
 
 -- The redraw of a coloured blank row after a wrapped row.
 coloured_below : redraw
-    (record (at 2 (on (g 0x61 ∷ g 0x62 ∷ []) ∷ row (blank red ∷ blank red ∷ []) ∷ []) 1 1) { attrs = red })
+    (record (at 2 (wrapped_row (g 0x61 ∷ g 0x62 ∷ []) ∷ row (blank red ∷ blank red ∷ []) ∷ []) 1 1) { attrs = red })
     ≡ cleared
     (p 0x61 ∷ p 0x62 ∷ ChangeAttrs default_attrs red ∷ p 0x20 ∷ Backspace ∷ EraseChars 1 ∷ MoveRight 1 ∷ EraseRest ∷ [])
 unfolding redraw_in script_in rows_written rows_below row_written cells_written row_link row_break
@@ -120,29 +120,30 @@ two_rows = refl
 -- ---- differences
 
 -- A difference in which a row ceases to be wrapped, and one in which it becomes wrapped again.
-breaks : difference (at 4 (row abcd ∷ x_row ∷ []) 1 1) (at 4 (on abcd ∷ x_row ∷ []) 1 1)
+breaks : difference (at 4 (row abcd ∷ x_row ∷ []) 1 1) (at 4 (wrapped_row abcd ∷ x_row ∷ []) 1 1)
     ≡ MoveTo 0 3 ∷ EraseChars 1 ∷ p 0x64 ∷ MoveTo 1 1 ∷ []
 unfolding difference_in script_in rows_written rows_below row_written cells_written row_link row_break
     cursor_written over_blank under_last move_ops attr_ops_in same_cell same_attrs same_color
 breaks = refl
 
-links : difference (at 4 (on abcd ∷ x_row ∷ []) 1 1) (at 4 (row abcd ∷ x_row ∷ []) 1 1)
+links : difference (at 4 (wrapped_row abcd ∷ x_row ∷ []) 1 1) (at 4 (row abcd ∷ x_row ∷ []) 1 1)
     ≡ MoveTo 0 3 ∷ p 0x64 ∷ p 0x78 ∷ []
 unfolding difference_in script_in rows_written rows_below row_written cells_written row_link row_break
     cursor_written over_blank under_last move_ops attr_ops_in same_cell same_attrs same_color
 links = refl
 
 -- A difference in which single cells change, and the cursor moves over the cells between them.
-skips : difference (at 4 (on (g 0x61 ∷ g 0x62 ∷ g 0x63 ∷ g 0x65 ∷ []) ∷ row (g 0x78 ∷ b ∷ g 0x7A ∷ b ∷ []) ∷ []) 1 1)
-    (at 4 (on abcd ∷ row (g 0x78 ∷ g 0x79 ∷ g 0x7A ∷ b ∷ []) ∷ []) 1 3)
+skips : difference (at 4 (wrapped_row (g 0x61 ∷ g 0x62 ∷ g 0x63 ∷ g 0x65 ∷ []) ∷ row
+    (g 0x78 ∷ b ∷ g 0x7A ∷ b ∷ []) ∷ []) 1 1)
+    (at 4 (wrapped_row abcd ∷ row (g 0x78 ∷ g 0x79 ∷ g 0x7A ∷ b ∷ []) ∷ []) 1 3)
     ≡ MoveTo 0 3 ∷ p 0x65 ∷ MoveTo 1 1 ∷ EraseChars 1 ∷ []
 unfolding difference_in script_in rows_written rows_below row_written cells_written row_link row_break
     cursor_written over_blank under_last move_ops attr_ops_in same_cell same_attrs same_color
 skips = refl
 
 -- Erasing a wide character clears the wrapped flag, so the difference links the rows again.
-relinks : difference (at 4 (on (g 0x61 ∷ g 0x62 ∷ b ∷ g 0x64 ∷ []) ∷ x_row ∷ []) 0 4)
-    (at 4 (on (g 0x61 ∷ g 0x62 ∷ wide ∷ right_half ∷ []) ∷ x_row ∷ []) 1 1)
+relinks : difference (at 4 (wrapped_row (g 0x61 ∷ g 0x62 ∷ b ∷ g 0x64 ∷ []) ∷ x_row ∷ []) 0 4)
+    (at 4 (wrapped_row (g 0x61 ∷ g 0x62 ∷ wide ∷ right_half ∷ []) ∷ x_row ∷ []) 1 1)
     ≡ MoveTo 0 2 ∷ EraseChars 1 ∷ MoveRight 1 ∷ p 0x64 ∷ p 0x78 ∷ MoveTo 0 3 ∷ p 0x64 ∷ []
 unfolding difference_in script_in rows_written rows_below row_written cells_written row_link row_break
     cursor_written over_blank under_last move_ops attr_ops_in same_cell same_attrs same_color
@@ -176,13 +177,13 @@ erases = refl
 
 -- A break and a link after a wide last glyph of a row.
 wide_breaks : difference (at 4 (row (g 0x61 ∷ g 0x62 ∷ wide ∷ right_half ∷ []) ∷ x_row ∷ []) 1 1)
-    (at 4 (on (g 0x61 ∷ g 0x62 ∷ wide ∷ right_half ∷ []) ∷ x_row ∷ []) 1 1)
+    (at 4 (wrapped_row (g 0x61 ∷ g 0x62 ∷ wide ∷ right_half ∷ []) ∷ x_row ∷ []) 1 1)
     ≡ MoveTo 0 2 ∷ EraseChars 1 ∷ Print middle ∷ MoveTo 1 1 ∷ []
 unfolding difference_in script_in rows_written rows_below row_written cells_written row_link row_break
     cursor_written over_blank under_last move_ops attr_ops_in same_cell same_attrs same_color
 wide_breaks = refl
 
-wide_links : difference (at 4 (on (g 0x61 ∷ g 0x62 ∷ wide ∷ right_half ∷ []) ∷ x_row ∷ []) 1 1)
+wide_links : difference (at 4 (wrapped_row (g 0x61 ∷ g 0x62 ∷ wide ∷ right_half ∷ []) ∷ x_row ∷ []) 1 1)
     (at 4 (row (g 0x61 ∷ g 0x62 ∷ wide ∷ right_half ∷ []) ∷ x_row ∷ []) 1 1)
     ≡ MoveTo 0 2 ∷ Print middle ∷ p 0x78 ∷ []
 unfolding difference_in script_in rows_written rows_below row_written cells_written row_link row_break
@@ -198,8 +199,8 @@ unfolding difference_in script_in rows_written rows_below row_written cells_writ
 widens = refl
 
 -- A difference on a screen of one column.
-one_column : difference (at 1 (on (g 0x61 ∷ []) ∷ row (b ∷ []) ∷ row (g 0x63 ∷ []) ∷ []) 1 0)
-    (at 1 (row (g 0x61 ∷ []) ∷ on (g 0x62 ∷ []) ∷ row (g 0x63 ∷ []) ∷ []) 2 1)
+one_column : difference (at 1 (wrapped_row (g 0x61 ∷ []) ∷ row (b ∷ []) ∷ row (g 0x63 ∷ []) ∷ []) 1 0)
+    (at 1 (row (g 0x61 ∷ []) ∷ wrapped_row (g 0x62 ∷ []) ∷ row (g 0x63 ∷ []) ∷ []) 2 1)
     ≡ MoveTo 0 0 ∷ p 0x61 ∷ p 0x20 ∷ Backspace ∷ EraseChars 1 ∷ []
 unfolding difference_in script_in rows_written rows_below row_written cells_written row_link row_break
     cursor_written over_blank under_last move_ops attr_ops_in same_cell same_attrs same_color
@@ -237,8 +238,8 @@ unfolding cells_written move_ops attr_ops_in same_cell same_attrs same_color
 two_columns = refl
 
 -- A difference of one row in which a glyph replaces the continuation cell of a wide character.
-one_row : (item_of_difference 0 0 4 (on (g 0x61 ∷ g 0x62 ∷ b ∷ g 0x64 ∷ []))
-    (on (g 0x61 ∷ g 0x62 ∷ wide ∷ right_half ∷ []))).ops
+one_row : (item_of_difference 0 0 4 (wrapped_row (g 0x61 ∷ g 0x62 ∷ b ∷ g 0x64 ∷ []))
+    (wrapped_row (g 0x61 ∷ g 0x62 ∷ wide ∷ right_half ∷ []))).ops
     ≡ MoveRight 2 ∷ EraseChars 1 ∷ MoveRight 1 ∷ p 0x64 ∷ []
 unfolding cells_written row_break move_ops attr_ops_in same_cell same_attrs same_color
 one_row = refl

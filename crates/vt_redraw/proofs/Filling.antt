@@ -78,10 +78,11 @@ at-behind cells cols end k h l =
     ∙ get_or-replicate (cols - length cells) (k - length cells) end default_blank (omega arith)
 
 -- The cell at an index of a slice of a row's stored cells.
-pub at-part : (cells : List CellValue) (cols : ℕ) (end : CellValue) (flag : Bool) (start stop k : ℕ) (row : RowValue)
-    → record { cells = cells_filled_to cells cols end; wrapped = flag } ≡ row → start + k < stop → stop ≤ length cells
+pub at-part : (cells : List CellValue) (cols : ℕ) (end : CellValue) (wrapped : Bool) (start stop k : ℕ) (row : RowValue)
+    → record { cells = cells_filled_to cells cols end; wrapped = wrapped } ≡ row → start + k < stop → stop ≤
+    length cells
     → at (slice_range cells start stop) k ≡ at row.cells (start + k)
-at-part cells cols end flag start stop k row is below inside =
+at-part cells cols end wrapped start stop k row is below inside =
     get_or-chunk start (stop - start) cells k default_blank (omega arith)
     ∙ sym (at-filled cells cols end (start + k) (omega arith)) ∙ ap (λ r. at r.cells (start + k)) is
 

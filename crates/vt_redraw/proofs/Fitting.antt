@@ -29,29 +29,29 @@ use Rattle.vt_redraw.proofs.Halves.{run_bound}
 
 -- ==== The writers keep the form of the pen.
 
-pub cells_form : (r c : ℕ) (pen : Pen) (flag : Bool) (k : ℕ) (xs ys : List CellValue) →
-    (cells_written r c pen flag k xs ys).pen.form ≡ pen.form
+pub cells_form : (r c : ℕ) (pen : Pen) (wrapped : Bool) (k : ℕ) (xs ys : List CellValue) →
+    (cells_written r c pen wrapped k xs ys).pen.form ≡ pen.form
 unfolding cells_written
-cells_form r c pen flag k [] ys = refl
-cells_form r c pen flag k (x ∷ xs) [] = refl
-cells_form r c pen flag (suc k) (x ∷ xs) (y ∷ ys) = cells_form r (c + 1) pen flag k xs ys
-cells_form r c pen flag zero (right_half ∷ xs) (y ∷ ys) = cells_form r (c + 1) pen flag zero xs ys
-cells_form r c pen flag zero (blank a ∷ xs) (y ∷ ys) =
+cells_form r c pen wrapped k [] ys = refl
+cells_form r c pen wrapped k (x ∷ xs) [] = refl
+cells_form r c pen wrapped (suc k) (x ∷ xs) (y ∷ ys) = cells_form r (c + 1) pen wrapped k xs ys
+cells_form r c pen wrapped zero (right_half ∷ xs) (y ∷ ys) = cells_form r (c + 1) pen wrapped zero xs ys
+cells_form r c pen wrapped zero (blank a ∷ xs) (y ∷ ys) =
     let n = blank_run a xs in
     let next = pen_in pen.form r c a in
-    let now = wrapped_after_erasure flag (drop n ys) in
-    cond_both (same_cell (blank a) y) (cells_written r (c + 1) pen flag zero xs ys)
+    let now = wrapped_after_erasure wrapped (drop n ys) in
+    cond_both (same_cell (blank a) y) (cells_written r (c + 1) pen wrapped zero xs ys)
     (ops_then (placed_op pen r c a (erase_run pen.form (suc n) (drop n ys))) (cells_written r (c + 1) next now n xs ys))
     (λ (w : Scripted). w.pen.form ≡ pen.form)
-    (λ _. cells_form r (c + 1) pen flag zero xs ys) (λ _. cells_form r (c + 1) next now n xs ys)
-cells_form r c pen flag zero (glyph text wide a ∷ xs) (y ∷ ys) =
+    (λ _. cells_form r (c + 1) pen wrapped zero xs ys) (λ _. cells_form r (c + 1) next now n xs ys)
+cells_form r c pen wrapped zero (glyph text wide a ∷ xs) (y ∷ ys) =
     let k = glyph_columns wide - 1 in
     let next = pen_past pen.form r (c + glyph_columns wide) a text in
-    let now = wrapped_after_glyph flag wide (drop 1 ys) in
-    cond_both (same_cell (glyph text wide a) y) (cells_written r (c + 1) pen flag k xs ys)
+    let now = wrapped_after_glyph wrapped wide (drop 1 ys) in
+    cond_both (same_cell (glyph text wide a) y) (cells_written r (c + 1) pen wrapped k xs ys)
     (ops_then (placed_op pen r c a (Print text)) (cells_written r (c + 1) next now k xs ys))
     (λ (w : Scripted). w.pen.form ≡ pen.form)
-    (λ _. cells_form r (c + 1) pen flag k xs ys) (λ _. cells_form r (c + 1) next now k xs ys)
+    (λ _. cells_form r (c + 1) pen wrapped k xs ys) (λ _. cells_form r (c + 1) next now k xs ys)
 
 pub after_form : (r : ℕ) (pen : Pen) (cells : List CellValue) → (after_last_glyph r pen cells).pen.form ≡ pen.form
 after_form r pen cells =
@@ -59,53 +59,54 @@ after_form r pen cells =
     (record {
       ops = placed_op pen r (last_column cells) (attrs_of (last_glyph cells)) (Print (text_of (last_glyph cells)));
       pen = pen_after pen.form r cells;
-      flag = true;
+      wrapped = true;
     }) (λ (w : Scripted). w.pen.form ≡ pen.form) (λ _. refl) (λ _. refl)
 
-pub first_form : (r : ℕ) (pen : Pen) (flag : Bool) (xs ys : List CellValue) →
-    (first_written r pen flag xs ys).pen.form ≡ pen.form
-first_form r pen flag [] ys = refl
-first_form r pen flag (x ∷ xs) [] = refl
-first_form r pen flag (right_half ∷ xs) (y ∷ ys) = refl
-first_form r pen flag (blank a ∷ xs) (y ∷ ys) = refl
-first_form r pen flag (glyph text wide a ∷ xs) (y ∷ ys) = refl
+pub first_form : (r : ℕ) (pen : Pen) (wrapped : Bool) (xs ys : List CellValue) →
+    (first_written r pen wrapped xs ys).pen.form ≡ pen.form
+first_form r pen wrapped [] ys = refl
+first_form r pen wrapped (x ∷ xs) [] = refl
+first_form r pen wrapped (right_half ∷ xs) (y ∷ ys) = refl
+first_form r pen wrapped (blank a ∷ xs) (y ∷ ys) = refl
+first_form r pen wrapped (glyph text wide a ∷ xs) (y ∷ ys) = refl
 
-pub break_form : (r : ℕ) (pen : Pen) (flag wanted : Bool) (cells : List CellValue) →
-    (row_break r pen flag wanted cells).pen.form ≡ pen.form
+pub break_form : (r : ℕ) (pen : Pen) (wrapped wanted : Bool) (cells : List CellValue) →
+    (row_break r pen wrapped wanted cells).pen.form ≡ pen.form
 unfolding row_break
-break_form r pen flag wanted cells =
-    cond_both (flag && not wanted) (break_ops r pen cells) (no_ops pen flag)
+break_form r pen wrapped wanted cells =
+    cond_both (wrapped && not wanted) (break_ops r pen cells) (no_ops pen wrapped)
     (λ (w : Scripted). w.pen.form ≡ pen.form) (λ _. refl) (λ _. refl)
 
-pub row_form : (r k : ℕ) (pen : Pen) (flag : Bool) (x : RowValue) (ys : List CellValue) →
-    (row_written r k pen flag x ys).pen.form ≡ pen.form
+pub row_form : (r k : ℕ) (pen : Pen) (wrapped : Bool) (x : RowValue) (ys : List CellValue) →
+    (row_written r k pen wrapped x ys).pen.form ≡ pen.form
 unfolding row_written
-row_form r k pen flag x ys =
-    let w = cells_written r 0 pen flag k x.cells ys in
-    break_form r w.pen w.flag x.wrapped x.cells ∙ cells_form r 0 pen flag k x.cells ys
+row_form r k pen wrapped x ys =
+    let w = cells_written r 0 pen wrapped k x.cells ys in
+    break_form r w.pen w.wrapped x.wrapped x.cells ∙ cells_form r 0 pen wrapped k x.cells ys
 
-pub link_form : (r : ℕ) (pen : Pen) (above : RowValue) (on : Bool) (x y : RowValue) →
-    (link_of r pen above on x y).pen.form ≡ pen.form
+pub link_form : (r : ℕ) (pen : Pen) (above : RowValue) (wrapped_above : Bool) (x y : RowValue) →
+    (link_of r pen above wrapped_above x y).pen.form ≡ pen.form
 unfolding row_link
-link_form r pen above on x y =
+link_form r pen above wrapped_above x y =
     let w = after_last_glyph r pen above.cells in
     let P = λ (j : Linked). j.pen.form ≡ pen.form in
-    cond_both above.wrapped (row_link r pen above.cells on y.wrapped x.cells y.cells) (no_link pen y.wrapped) P
-    (λ _. cond_both (not on || (is_at pen r (length above.cells) && starts_other x.cells y.cells))
+    cond_both above.wrapped (row_link r pen above.cells wrapped_above y.wrapped x.cells y.cells)
+    (no_link pen y.wrapped) P
+    (λ _. cond_both (not wrapped_above || (is_at pen r (length above.cells) && starts_other x.cells y.cells))
     (ops_then_link w.ops (first_written (r + 1) w.pen y.wrapped x.cells y.cells)) (no_link pen y.wrapped) P
     (λ _. first_form (r + 1) w.pen y.wrapped x.cells y.cells ∙ after_form r pen above.cells) (λ _. refl))
     (λ _. refl)
 
-below_form : (r : ℕ) (pen : Pen) (above : RowValue) (on : Bool) (xs ys : List RowValue) →
-    (rows_below r pen above on xs ys).pen.form ≡ pen.form
+below_form : (r : ℕ) (pen : Pen) (above : RowValue) (wrapped_above : Bool) (xs ys : List RowValue) →
+    (rows_below r pen above wrapped_above xs ys).pen.form ≡ pen.form
 unfolding rows_below
-below_form r pen above on [] ys = refl
-below_form r pen above on (x ∷ xs) [] = refl
-below_form r pen above on (x ∷ xs) (y ∷ ys) =
-    let link = link_of r pen above on x y in
-    let row = row_written (r + 1) link.settled link.pen link.flag x y.cells in
-    below_form (r + 1) row.pen x row.flag xs ys
-    ∙ (row_form (r + 1) link.settled link.pen link.flag x y.cells ∙ link_form r pen above on x y)
+below_form r pen above wrapped_above [] ys = refl
+below_form r pen above wrapped_above (x ∷ xs) [] = refl
+below_form r pen above wrapped_above (x ∷ xs) (y ∷ ys) =
+    let link = link_of r pen above wrapped_above x y in
+    let row = row_written (r + 1) link.settled link.pen link.wrapped x y.cells in
+    below_form (r + 1) row.pen x row.wrapped xs ys
+    ∙ (row_form (r + 1) link.settled link.pen link.wrapped x y.cells ∙ link_form r pen above wrapped_above x y)
 
 pub rows_form : (pen : Pen) (xs ys : List RowValue) → (rows_written pen xs ys).pen.form ≡ pen.form
 unfolding rows_written
@@ -113,7 +114,7 @@ rows_form pen [] ys = refl
 rows_form pen (x ∷ xs) [] = refl
 rows_form pen (x ∷ xs) (y ∷ ys) =
     let row = row_written 0 0 pen y.wrapped x y.cells in
-    below_form 0 row.pen x row.flag xs ys ∙ row_form 0 0 pen y.wrapped x y.cells
+    below_form 0 row.pen x row.wrapped xs ys ∙ row_form 0 0 pen y.wrapped x y.cells
 
 -- ==== The text of glyphs is read back unchanged.
 
@@ -252,37 +253,40 @@ pub record FitsWritten (w : Scripted) : Type 0 where
 pub fits_after : (ops : List Op) (w : Scripted) → AllFit ops → FitsWritten w → FitsWritten (ops_then ops w)
 fits_after ops w h k = record { ops = fits_append ops w.ops h k.ops; attrs = k.attrs }
 
-pub cells_fit : (r c : ℕ) (pen : Pen) (flag : Bool) (k : ℕ) (xs ys : List CellValue) →
+pub cells_fit : (r c : ℕ) (pen : Pen) (wrapped : Bool) (k : ℕ) (xs ys : List CellValue) →
     r < 65535 → c + length xs < 2 ^ 16 → IsCounted pen.form (length ys) → FitsAttrs pen.attrs →
-    AllByRecursion IsFit xs → FitsWritten (cells_written r c pen flag k xs ys)
+    AllByRecursion IsFit xs → FitsWritten (cells_written r c pen wrapped k xs ys)
 unfolding cells_written
-cells_fit r c pen flag k [] ys h l short was fit = record { ops = tt; attrs = was }
-cells_fit r c pen flag k (x ∷ xs) [] h l short was fit = record { ops = tt; attrs = was }
-cells_fit r c pen flag (suc k) (x ∷ xs) (y ∷ ys) h l short was fit =
-    cells_fit r (c + 1) pen flag k xs ys h (omega arith) (counted_le pen.form (length ys) _ (omega arith) short) was fit.1
-cells_fit r c pen flag zero (right_half ∷ xs) (y ∷ ys) h l short was fit =
-    cells_fit r (c + 1) pen flag zero xs ys h (omega arith) (counted_le pen.form (length ys) _ (omega arith) short) was fit.1
-cells_fit r c pen flag zero (blank a ∷ xs) (y ∷ ys) h l short was fit =
+cells_fit r c pen wrapped k [] ys h l short was fit = record { ops = tt; attrs = was }
+cells_fit r c pen wrapped k (x ∷ xs) [] h l short was fit = record { ops = tt; attrs = was }
+cells_fit r c pen wrapped (suc k) (x ∷ xs) (y ∷ ys) h l short was fit =
+    cells_fit r (c + 1) pen wrapped k xs ys h (omega arith)
+    (counted_le pen.form (length ys) _ (omega arith) short) was fit.1
+cells_fit r c pen wrapped zero (right_half ∷ xs) (y ∷ ys) h l short was fit =
+    cells_fit r (c + 1) pen wrapped zero xs ys h (omega arith)
+    (counted_le pen.form (length ys) _ (omega arith) short) was fit.1
+cells_fit r c pen wrapped zero (blank a ∷ xs) (y ∷ ys) h l short was fit =
     let less = counted_le pen.form (length ys) (suc (length ys)) (omega arith) short in
     let n = blank_run a xs in
     let bound = run_bound a xs in
     let op = erase_run pen.form (suc n) (drop n ys) in
-    let rest = cells_written r (c + 1) (pen_in pen.form r c a) (wrapped_after_erasure flag (drop n ys)) n xs ys in
-    cond_both (same_cell (blank a) y) (cells_written r (c + 1) pen flag zero xs ys)
+    let rest = cells_written r (c + 1) (pen_in pen.form r c a) (wrapped_after_erasure wrapped (drop n ys)) n xs ys in
+    cond_both (same_cell (blank a) y) (cells_written r (c + 1) pen wrapped zero xs ys)
     (ops_then (placed_op pen r c a op) rest) FitsWritten
-    (λ _. cells_fit r (c + 1) pen flag zero xs ys h (omega arith) less was fit.1)
+    (λ _. cells_fit r (c + 1) pen wrapped zero xs ys h (omega arith) less was fit.1)
     (λ _. fits_after (placed_op pen r c a op) rest
     (doing_fits pen r c a op h (omega arith) was fit.0.1 (erase_run_fits pen.form n ys (omega arith) short))
-    (cells_fit r (c + 1) (pen_in pen.form r c a) (wrapped_after_erasure flag (drop n ys)) n xs ys h (omega arith) less fit.0.1 fit.1))
-cells_fit r c pen flag zero (glyph text wide a ∷ xs) (y ∷ ys) h l short was fit =
+    (cells_fit r (c + 1) (pen_in pen.form r c a) (wrapped_after_erasure wrapped (drop n ys)) n xs ys h (omega arith)
+    less fit.0.1 fit.1))
+cells_fit r c pen wrapped zero (glyph text wide a ∷ xs) (y ∷ ys) h l short was fit =
     let less = counted_le pen.form (length ys) (suc (length ys)) (omega arith) short in
     let k = glyph_columns wide - 1 in
     let next = pen_past pen.form r (c + glyph_columns wide) a text in
-    let now = wrapped_after_glyph flag wide (drop 1 ys) in
+    let now = wrapped_after_glyph wrapped wide (drop 1 ys) in
     let rest = cells_written r (c + 1) next now k xs ys in
-    cond_both (same_cell (glyph text wide a) y) (cells_written r (c + 1) pen flag k xs ys)
+    cond_both (same_cell (glyph text wide a) y) (cells_written r (c + 1) pen wrapped k xs ys)
     (ops_then (placed_op pen r c a (Print text)) rest) FitsWritten
-    (λ _. cells_fit r (c + 1) pen flag k xs ys h (omega arith) less was fit.1)
+    (λ _. cells_fit r (c + 1) pen wrapped k xs ys h (omega arith) less was fit.1)
     (λ _. fits_after (placed_op pen r c a (Print text)) rest
     (doing_fits pen r c a (Print text) h (omega arith) was fit.0.1 (printable_text text wide fit.0.0))
     (cells_fit r (c + 1) next now k xs ys h (omega arith) less fit.0.1 fit.1))
@@ -301,7 +305,7 @@ after_fits r pen cells h some l was fit =
     let again : Scripted = record {
       ops = placed_op pen r (last_column cells) (attrs_of (last_glyph cells)) (Print (text_of (last_glyph cells)));
       pen = pen_after pen.form r cells;
-      flag = true;
+      wrapped = true;
     } in
     cond_both (is_at pen r (length cells)) (no_ops pen true) again FitsWritten (λ _. record { ops = tt; attrs = was })
     (λ _.
@@ -321,18 +325,18 @@ wrap_fits r pen h =
     cond_both pen.is_shifted (Print (0x20 ∷ []) ∷ MoveTo r 0 ∷ []) [] AllFit
     (λ _. (space_fits, ((h, omega arith), tt))) (λ _. tt)
 
-pub first_fits : (r : ℕ) (pen : Pen) (flag : Bool) (xs ys : List CellValue) → r < 65535 →
-    FitsAttrs pen.attrs → AllByRecursion IsFit xs → FitsLinked (first_written r pen flag xs ys)
-first_fits r pen flag [] ys h was fit = record { ops = tt; attrs = was }
-first_fits r pen flag (x ∷ xs) [] h was fit = record { ops = tt; attrs = was }
-first_fits r pen flag (right_half ∷ xs) (y ∷ ys) h was fit = record { ops = tt; attrs = was }
-first_fits r pen flag (blank a ∷ xs) (y ∷ ys) h was fit = record {
+pub first_fits : (r : ℕ) (pen : Pen) (wrapped : Bool) (xs ys : List CellValue) → r < 65535 →
+    FitsAttrs pen.attrs → AllByRecursion IsFit xs → FitsLinked (first_written r pen wrapped xs ys)
+first_fits r pen wrapped [] ys h was fit = record { ops = tt; attrs = was }
+first_fits r pen wrapped (x ∷ xs) [] h was fit = record { ops = tt; attrs = was }
+first_fits r pen wrapped (right_half ∷ xs) (y ∷ ys) h was fit = record { ops = tt; attrs = was }
+first_fits r pen wrapped (blank a ∷ xs) (y ∷ ys) h was fit = record {
   ops =
       fits_append (attr_ops_in pen.form pen.attrs a) (Print (0x20 ∷ []) ∷ back_op pen.form r 0 ∷ EraseChars 1 ∷ [])
       (changing_fits pen.form pen.attrs a was fit.0.1) (space_fits, (back_fits pen.form r 0 h (omega arith), (omega arith, tt)));
   attrs = fit.0.1;
 }
-first_fits r pen flag (glyph text wide a ∷ xs) (y ∷ ys) h was fit = record {
+first_fits r pen wrapped (glyph text wide a ∷ xs) (y ∷ ys) h was fit = record {
   ops =
       fits_append (attr_ops_in pen.form pen.attrs a) (wrap_ops r pen ++ Print text ∷ [])
       (changing_fits pen.form pen.attrs a was fit.0.1)
@@ -340,29 +344,32 @@ first_fits r pen flag (glyph text wide a ∷ xs) (y ∷ ys) h was fit = record {
   attrs = fit.0.1;
 }
 
-linked_fits : (r : ℕ) (pen : Pen) (above : List CellValue) (on flag : Bool) (xs ys : List CellValue) →
+linked_fits : (r : ℕ) (pen : Pen) (above : List CellValue) (wrapped_above wrapped : Bool) (xs ys : List CellValue) →
     r + 1 < 65535 → 0 < length above → length above < 2 ^ 16 → FitsAttrs pen.attrs →
-    AllByRecursion IsFit above → AllByRecursion IsFit xs → FitsLinked (row_link r pen above on flag xs ys)
+    AllByRecursion IsFit above → AllByRecursion IsFit xs → FitsLinked (row_link r pen above wrapped_above wrapped xs ys)
 unfolding row_link
-linked_fits r pen above on flag xs ys h some l was over fit =
+linked_fits r pen above wrapped_above wrapped xs ys h some l was over fit =
     let w = after_last_glyph r pen above in
     let one = after_fits r pen above (omega arith) some l was over in
-    let two = first_fits (r + 1) w.pen flag xs ys h one.attrs fit in
-    cond_both (not on || (is_at pen r (length above) && starts_other xs ys))
-    (ops_then_link w.ops (first_written (r + 1) w.pen flag xs ys)) (no_link pen flag) FitsLinked
+    let two = first_fits (r + 1) w.pen wrapped xs ys h one.attrs fit in
+    cond_both (not wrapped_above || (is_at pen r (length above) && starts_other xs ys))
+    (ops_then_link w.ops (first_written (r + 1) w.pen wrapped xs ys)) (no_link pen wrapped) FitsLinked
     (λ _.
-    record { ops = fits_append w.ops (first_written (r + 1) w.pen flag xs ys).ops one.ops two.ops; attrs = two.attrs })
+    record {
+      ops = fits_append w.ops (first_written (r + 1) w.pen wrapped xs ys).ops one.ops two.ops;
+      attrs = two.attrs;
+    })
     (λ _. record { ops = tt; attrs = was })
 
-pub broken_fits : (r : ℕ) (pen : Pen) (flag wanted : Bool) (cells : List CellValue) →
+pub broken_fits : (r : ℕ) (pen : Pen) (wrapped wanted : Bool) (cells : List CellValue) →
     r < 65535 → 0 < length cells → length cells < 2 ^ 16 → FitsAttrs pen.attrs →
-    AllByRecursion IsFit cells → FitsWritten (row_break r pen flag wanted cells)
+    AllByRecursion IsFit cells → FitsWritten (row_break r pen wrapped wanted cells)
 unfolding row_break
-broken_fits r pen flag wanted cells h some l was fit =
+broken_fits r pen wrapped wanted cells h some l was fit =
     let last = at_fits cells (last_column cells) fit in
     let a = attrs_of (last_glyph cells) in
     let text = text_of (last_glyph cells) in
-    cond_both (flag && not wanted) (break_ops r pen cells) (no_ops pen flag) FitsWritten
+    cond_both (wrapped && not wanted) (break_ops r pen cells) (no_ops pen wrapped) FitsWritten
     (λ _. record {
       ops =
           fits_append (move_ops pen r (last_column cells)) (EraseChars (erased_count pen.form (length cells - last_column cells))
@@ -382,44 +389,46 @@ pub record IsFitRow (width : ℕ) (row : RowValue) : Type 0 where
   pub columns : length row.cells ≡ width
   pub cells : AllByRecursion IsFit row.cells
 
-row_fits : (r k width : ℕ) (pen : Pen) (flag : Bool) (x : RowValue) (ys : List CellValue) → r < 65535 → 0 < width →
-    width < 2 ^ 16 → IsCounted pen.form (length ys) → FitsAttrs pen.attrs → IsFitRow width x → FitsWritten (row_written r k pen flag x ys)
+row_fits : (r k width : ℕ) (pen : Pen) (wrapped : Bool) (x : RowValue) (ys : List CellValue) → r < 65535 → 0 < width →
+    width < 2 ^ 16 → IsCounted pen.form (length ys) → FitsAttrs pen.attrs → IsFitRow width x → FitsWritten
+    (row_written r k pen wrapped x ys)
 unfolding row_written
-row_fits r k width pen flag x ys h some l short was fit =
+row_fits r k width pen wrapped x ys h some l short was fit =
     let columns = fit.columns in
-    let w = cells_written r 0 pen flag k x.cells ys in
-    let one = cells_fit r 0 pen flag k x.cells ys h (omega arith) short was fit.cells in
-    fits_after w.ops (row_break r w.pen w.flag x.wrapped x.cells) one.ops
-    (broken_fits r w.pen w.flag x.wrapped x.cells h (omega arith) (omega arith) one.attrs fit.cells)
+    let w = cells_written r 0 pen wrapped k x.cells ys in
+    let one = cells_fit r 0 pen wrapped k x.cells ys h (omega arith) short was fit.cells in
+    fits_after w.ops (row_break r w.pen w.wrapped x.wrapped x.cells) one.ops
+    (broken_fits r w.pen w.wrapped x.wrapped x.cells h (omega arith) (omega arith) one.attrs fit.cells)
 
 -- The columns of the row fit in 16 bits, if the portable form counts them.
 abbrev pub IsCountedRow : Form → RowValue → Type 0
 IsCountedRow form row = IsCounted form (length row.cells)
 
-below_fit : (r width : ℕ) (pen : Pen) (above : RowValue) (on : Bool) (xs ys : List RowValue) →
+below_fit : (r width : ℕ) (pen : Pen) (above : RowValue) (wrapped_above : Bool) (xs ys : List RowValue) →
     r + suc (length xs) < 2 ^ 16 → 0 < width → width < 2 ^ 16 →
     FitsAttrs pen.attrs → IsFitRow width above → AllByRecursion (IsFitRow width) xs →
-    AllByRecursion (IsCountedRow pen.form) ys → FitsWritten (rows_below r pen above on xs ys)
+    AllByRecursion (IsCountedRow pen.form) ys → FitsWritten (rows_below r pen above wrapped_above xs ys)
 unfolding rows_below
-below_fit r width pen above on [] ys h some l was over fit short = record { ops = tt; attrs = was }
-below_fit r width pen above on (x ∷ xs) [] h some l was over fit short = record { ops = tt; attrs = was }
-below_fit r width pen above on (x ∷ xs) (y ∷ ys) h some l was over fit short =
+below_fit r width pen above wrapped_above [] ys h some l was over fit short = record { ops = tt; attrs = was }
+below_fit r width pen above wrapped_above (x ∷ xs) [] h some l was over fit short = record { ops = tt; attrs = was }
+below_fit r width pen above wrapped_above (x ∷ xs) (y ∷ ys) h some l was over fit short =
     let columns = over.columns in
-    let link = link_of r pen above on x y in
-    let row = row_written (r + 1) link.settled link.pen link.flag x y.cells in
+    let link = link_of r pen above wrapped_above x y in
+    let row = row_written (r + 1) link.settled link.pen link.wrapped x y.cells in
     let one : FitsLinked link =
-    cond_both above.wrapped (row_link r pen above.cells on y.wrapped x.cells y.cells) (no_link pen y.wrapped) FitsLinked
-    (λ _. linked_fits r pen above.cells on y.wrapped x.cells y.cells
+    cond_both above.wrapped (row_link r pen above.cells wrapped_above y.wrapped x.cells y.cells)
+    (no_link pen y.wrapped) FitsLinked
+    (λ _. linked_fits r pen above.cells wrapped_above y.wrapped x.cells y.cells
     (omega arith) (omega arith) (omega arith) was over.cells fit.0.cells)
     (λ _. record { ops = tt; attrs = was }) in
-    let linked : link.pen.form ≡ pen.form = link_form r pen above on x y in
+    let linked : link.pen.form ≡ pen.form = link_form r pen above wrapped_above x y in
     let kept : row.pen.form ≡ pen.form =
-    row_form (r + 1) link.settled link.pen link.flag x y.cells ∙ linked in
-    let two = row_fits (r + 1) link.settled width link.pen link.flag x y.cells (omega arith) some l
+    row_form (r + 1) link.settled link.pen link.wrapped x y.cells ∙ linked in
+    let two = row_fits (r + 1) link.settled width link.pen link.wrapped x y.cells (omega arith) some l
     (subst (λ (f : Form). IsCounted f (length y.cells)) (sym linked) short.0) one.attrs fit.0 in
-    fits_after (link.ops ++ row.ops) (rows_below (r + 1) row.pen x row.flag xs ys)
+    fits_after (link.ops ++ row.ops) (rows_below (r + 1) row.pen x row.wrapped xs ys)
     (fits_append link.ops row.ops one.ops two.ops)
-    (below_fit (r + 1) width row.pen x row.flag xs ys (omega arith) some l two.attrs fit.0 fit.1
+    (below_fit (r + 1) width row.pen x row.wrapped xs ys (omega arith) some l two.attrs fit.0 fit.1
     (subst (λ (f : Form). AllByRecursion (IsCountedRow f) ys) (sym kept) short.1))
 
 pub rows_fit : (width : ℕ) (pen : Pen) (xs ys : List RowValue) → length xs < 2 ^ 16 → 0 < width → width < 2 ^ 16 →
@@ -431,6 +440,6 @@ rows_fit width pen (x ∷ xs) [] h some l was fit short = record { ops = tt; att
 rows_fit width pen (x ∷ xs) (y ∷ ys) h some l was fit short =
     let row = row_written 0 0 pen y.wrapped x y.cells in
     let one = row_fits 0 0 width pen y.wrapped x y.cells (omega arith) some l short.0 was fit.0 in
-    fits_after row.ops (rows_below 0 row.pen x row.flag xs ys) one.ops
-    (below_fit 0 width row.pen x row.flag xs ys (omega arith) some l one.attrs fit.0 fit.1
+    fits_after row.ops (rows_below 0 row.pen x row.wrapped xs ys) one.ops
+    (below_fit 0 width row.pen x row.wrapped xs ys (omega arith) some l one.attrs fit.0 fit.1
     (subst (λ (f : Form). AllByRecursion (IsCountedRow f) ys) (sym (row_form 0 0 pen y.wrapped x y.cells)) short.1))

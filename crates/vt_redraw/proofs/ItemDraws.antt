@@ -101,20 +101,20 @@ stood self r start y any is steady item =
 
 -- Operations that change the cells of one row draw the canvas with that row replaced.
 drawn_in : (self : Picture) (r start : ℕ) (y : RowValue) (any : Canvas)
-    (ops : List Op) (cells : List CellValue) (flag : Bool) (pen : Pen) →
+    (ops : List Op) (cells : List CellValue) (wrapped : Bool) (pen : Pen) →
     Stood self r start y any →
     Draws ops
     (mid any (take r any.page.rows) (drop (r + 1) any.page.rows) y.cells y.wrapped (pen_at r start default_attrs))
-    (mid any (take r any.page.rows) (drop (r + 1) any.page.rows) cells flag pen) →
-    drawn_all ops any ≡ Some (row_drawn r (row_of cells flag) pen any)
-drawn_in self r start y any ops cells flag pen at draws =
+    (mid any (take r any.page.rows) (drop (r + 1) any.page.rows) cells wrapped pen) →
+    drawn_all ops any ≡ Some (row_drawn r (row_of cells wrapped) pen any)
+drawn_in self r start y any ops cells wrapped pen at draws =
     let rows = any.page.rows in
     let inside = at.inside in
     let l = length-take r rows in
     let n : length (take r rows) ≡ r = omega arith in
-    let put : slice_set rows r (row_of cells flag) ≡ take r rows ++ row_of cells flag ∷ drop (r + 1) rows =
-    ap (λ (z : List RowValue). slice_set z r (row_of cells flag)) (sym at.splits)
-    ∙ set_at (take r rows) y (drop (r + 1) rows) (row_of cells flag) r n in
+    let put : slice_set rows r (row_of cells wrapped) ≡ take r rows ++ row_of cells wrapped ∷ drop (r + 1) rows =
+    ap (λ (z : List RowValue). slice_set z r (row_of cells wrapped)) (sym at.splits)
+    ∙ set_at (take r rows) y (drop (r + 1) rows) (row_of cells wrapped) r n in
     ap (drawn_all ops) (sym at.begins) ∙ (draws
     ∙ ap (λ (z : List RowValue). Some
     (record any { page = record (any.page) { rows = z; row = pen.row; column = pen.col }; attrs = pen.attrs }))
@@ -125,7 +125,7 @@ drawn_in self r start y any ops cells flag pen at draws =
 -- The item gives row r the given cells; besides, only the wrapped flag, the cursor and the attributes change.
 abbrev DrawsItem : Scripted → Canvas → ℕ → List CellValue → Type 0
 DrawsItem w any r cells =
-    drawn_all w.ops any ≡ Some (row_drawn r (record { cells = cells; wrapped = w.flag }) w.pen any)
+    drawn_all w.ops any ≡ Some (row_drawn r (record { cells = cells; wrapped = w.wrapped }) w.pen any)
 
 -- The preconditions of an item hold in the form that the lemmas on rows need.
 item_of : (self : Picture) (r start stop : ℕ) (y : RowValue) (any : Canvas) →
@@ -164,7 +164,7 @@ range_drawn self r start stop y any at le low cx cy =
     let w = range_written r start stop y.wrapped x.cells y.cells in
     let drew = range_draws any (take r rows) (drop (r + 1) rows) r start stop (length rows) y.wrapped x.cells
     y.cells (item_of self r start stop y any at le low cx cy) (row_stands any.page.width y at.row).sound in
-    drawn_in self r start y any w.ops (with_range start stop x.cells y.cells) w.flag w.pen at drew.draws.draws
+    drawn_in self r start y any w.ops (with_range start stop x.cells y.cells) w.wrapped w.pen at drew.draws.draws
 
 whole_drawn : (self : Picture) (r : ℕ) (y : RowValue) (any : Canvas) → Stood self r 0 y any →
     DrawsItem (item_of_difference r 0 any.page.width (row_or self.width self.rows r) y)
@@ -184,7 +184,7 @@ whole_drawn self r y any at =
     x y (item_of self r 0 width y any at (omega arith) (omega arith) cx cy)
     (row_stands width x at.self_row) (row_stands width y at.row) in
     subst (DrawsItem w any r) (sym (range_all x.cells y.cells width ex ey))
-    (drawn_in self r 0 y any w.ops x.cells w.flag w.pen at drew.draws)
+    (drawn_in self r 0 y any w.ops x.cells w.wrapped w.pen at drew.draws)
 
 pub difference_item_draws : (self : Picture) (r start stop : ℕ) (y : RowValue) (any : Canvas) →
     IsPicture self → IsSteady self → AwaitsItem self r start y any → start ≤ stop → stop ≤ self.width →
@@ -227,7 +227,7 @@ abbrev DrawsOff : Scripted → Canvas → ℕ → List CellValue → Type 0
 DrawsOff w any r cells = drawn_all w.ops any ≡ Some (row_drawn r (record { cells = cells; wrapped = false }) w.pen any)
 
 turned_off : (w : Scripted) (any : Canvas) (r : ℕ) (cells : List CellValue) →
-    w.flag ≡ false → DrawsItem w any r cells → DrawsOff w any r cells
+    w.wrapped ≡ false → DrawsItem w any r cells → DrawsOff w any r cells
 turned_off w any r cells off h =
     h ∙ ap (λ (b : Bool). Some (row_drawn r (record { cells = cells; wrapped = b }) w.pen any)) off
 
@@ -246,13 +246,13 @@ linked_drawn self r any at same =
     let drew = linked_item_draws any (take r rows) (drop (r + 1) rows) x.cells r (length rows)
     at.reads (omega arith) (omega arith) ex (paired_of x.cells at.self_row.paired) at.prints in
     let e : length x.cells ≡ self.width = ex ∙ sym same in
-    drawn_in self r 0 (blank_row default_attrs self.width) any w.ops x.cells w.flag w.pen at
+    drawn_in self r 0 (blank_row default_attrs self.width) any w.ops x.cells w.wrapped w.pen at
     (subst (λ (n : ℕ). Draws w.ops
     (mid any (take r rows) (drop (r + 1) rows) (blanks default_attrs n) false (pen_at r 0 default_attrs))
-    (mid any (take r rows) (drop (r + 1) rows) x.cells w.flag w.pen))
+    (mid any (take r rows) (drop (r + 1) rows) x.cells w.wrapped w.pen))
     e drew)
 
-range_off : (r start stop : ℕ) (xs ys : List CellValue) → (range_written r start stop false xs ys).flag ≡ false
+range_off : (r start stop : ℕ) (xs ys : List CellValue) → (range_written r start stop false xs ys).wrapped ≡ false
 range_off r start stop xs ys = cells_off r start (pen_at r start default_attrs) 0 _ _
 
 pub redraw_item_draws : (self : Picture) (r start stop : ℕ) (is_linked : Bool) (any : Canvas) →
@@ -305,17 +305,17 @@ two_split rows r d above y h e f =
     ∙ rows_split rows r d (omega arith)))
 
 -- Setting a row and then the row below it replaces both rows in the list.
-two_set : (rows done below : List RowValue) (above y on new : RowValue) (r : ℕ) →
+two_set : (rows done below : List RowValue) (above y linked new : RowValue) (r : ℕ) →
     done ++ (above ∷ y ∷ below) ≡ rows → length done ≡ r →
-    slice_set (slice_set rows r on) (r + 1) new ≡ done ++ (on ∷ new ∷ below)
-two_set rows done below above y on new r e n =
-    let l = length-append done (on ∷ []) in
-    let m : length (done ++ on ∷ []) ≡ r + 1 = omega arith in
-    ap (λ (z : List RowValue). slice_set (slice_set z r on) (r + 1) new) (sym e)
-    ∙ (ap (λ (z : List RowValue). slice_set z (r + 1) new) (set_at done above (y ∷ below) on r n)
-    ∙ (ap (λ (z : List RowValue). slice_set z (r + 1) new) (sym (append_assoc done (on ∷ []) (y ∷ below)))
-    ∙ (set_at (done ++ on ∷ []) y below new (r + 1) m
-    ∙ append_assoc done (on ∷ []) (new ∷ below))))
+    slice_set (slice_set rows r linked) (r + 1) new ≡ done ++ (linked ∷ new ∷ below)
+two_set rows done below above y linked new r e n =
+    let l = length-append done (linked ∷ []) in
+    let m : length (done ++ linked ∷ []) ≡ r + 1 = omega arith in
+    ap (λ (z : List RowValue). slice_set (slice_set z r linked) (r + 1) new) (sym e)
+    ∙ (ap (λ (z : List RowValue). slice_set z (r + 1) new) (set_at done above (y ∷ below) linked r n)
+    ∙ (ap (λ (z : List RowValue). slice_set z (r + 1) new) (sym (append_assoc done (linked ∷ []) (y ∷ below)))
+    ∙ (set_at (done ++ linked ∷ []) y below new (r + 1) m
+    ∙ append_assoc done (linked ∷ []) (new ∷ below))))
 
 pub redraw_item_wraps : (self : Picture) (r : ℕ) (above : RowValue) (any : Canvas) → IsPicture self →
     IsSteady self → AwaitsItem self r self.width above any → ends_blank above.cells ≡ false →
@@ -367,10 +367,10 @@ redraw_item_wraps self r above any is steady item full inside under =
     n (omega arith) (sym (ends_is above.cells) ∙ full) ex (paired_of x.cells self_row.paired) prints in
     let from : Draws w.ops (two any done below above.cells above.wrapped
     (blanks default_attrs self.width) false (pen_at r width default_attrs))
-    (two any done below above.cells true x.cells w.flag w.pen) =
+    (two any done below above.cells true x.cells w.wrapped w.pen) =
     subst (λ (k : ℕ). Draws w.ops
     (two any done below above.cells above.wrapped (blanks default_attrs k) false (pen_at r width default_attrs))
-    (two any done below above.cells true x.cells w.flag w.pen))
+    (two any done below above.cells true x.cells w.wrapped w.pen))
     e drew in
     let new = row_of x.cells false in
     let put : slice_set (slice_set rows r (record (row_at any.page r) { wrapped = true })) (r + 1) new

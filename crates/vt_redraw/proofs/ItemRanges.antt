@@ -100,7 +100,7 @@ whole_cuts_none self r is low =
 -- ---- rows that are not wrapped stay so
 
 pub cells_off : (r c : ℕ) (pen : Pen) (k : ℕ) (xs ys : List CellValue) →
-    (cells_written r c pen false k xs ys).flag ≡ false
+    (cells_written r c pen false k xs ys).wrapped ≡ false
 unfolding cells_written
 cells_off r c pen k [] ys = refl
 cells_off r c pen k (x ∷ xs) [] = refl
@@ -110,52 +110,53 @@ cells_off r c pen zero (blank a ∷ xs) (y ∷ ys) =
     let n = blank_run a xs in
     let rest = cells_written r (c + 1) (pen_in pen.form r c a) (wrapped_after_erasure false (drop n ys)) n xs ys in
     cond_both (same_cell (blank a) y) (cells_written r (c + 1) pen false zero xs ys)
-    (ops_then (placed_op pen r c a (erase_run pen.form (suc n) (drop n ys))) rest) (λ (w : Scripted). w.flag ≡ false)
+    (ops_then (placed_op pen r c a (erase_run pen.form (suc n) (drop n ys))) rest) (λ (w : Scripted). w.wrapped ≡ false)
     (λ _. cells_off r (c + 1) pen zero xs ys) (λ _. cells_off r (c + 1) (pen_in pen.form r c a) n xs ys)
 cells_off r c pen zero (glyph text wide a ∷ xs) (y ∷ ys) =
     let k = glyph_columns wide - 1 in
     let next = pen_past pen.form r (c + glyph_columns wide) a text in
     let rest = cells_written r (c + 1) next (wrapped_after_glyph false wide (drop 1 ys)) k xs ys in
     cond_both (same_cell (glyph text wide a) y) (cells_written r (c + 1) pen false k xs ys)
-    (ops_then (placed_op pen r c a (Print text)) rest) (λ (w : Scripted). w.flag ≡ false)
+    (ops_then (placed_op pen r c a (Print text)) rest) (λ (w : Scripted). w.wrapped ≡ false)
     (λ _. cells_off r (c + 1) pen k xs ys) (λ _. cells_off r (c + 1) next k xs ys)
 
-first_off : (r : ℕ) (pen : Pen) (xs ys : List CellValue) → (first_written r pen false xs ys).flag ≡ false
+first_off : (r : ℕ) (pen : Pen) (xs ys : List CellValue) → (first_written r pen false xs ys).wrapped ≡ false
 first_off r pen [] ys = refl
 first_off r pen (x ∷ xs) [] = refl
 first_off r pen (right_half ∷ xs) (y ∷ ys) = refl
 first_off r pen (blank a ∷ xs) (y ∷ ys) = refl
 first_off r pen (glyph text wide a ∷ xs) (y ∷ ys) = refl
 
-pub linked_off : (r : ℕ) (xs : List CellValue) → (linked_item r xs).flag ≡ false
+pub linked_off : (r : ℕ) (xs : List CellValue) → (linked_item r xs).wrapped ≡ false
 linked_off r xs =
     let ys = blanks default_attrs (length xs) in
     let first = first_written r (pen_at r 0 default_attrs) false xs ys in
-    ap (λ (b : Bool). (cells_written r 0 first.pen b first.settled xs ys).flag)
+    ap (λ (b : Bool). (cells_written r 0 first.pen b first.settled xs ys).wrapped)
     (first_off r (pen_at r 0 default_attrs) xs ys)
     ∙ cells_off r 0 first.pen first.settled xs ys
 
-broken_off : (r : ℕ) (pen : Pen) (flag : Bool) (cells : List CellValue) → (row_break r pen flag false cells).flag ≡ false
+broken_off : (r : ℕ) (pen : Pen) (wrapped : Bool) (cells : List CellValue) →
+    (row_break r pen wrapped false cells).wrapped ≡ false
 unfolding row_break
 broken_off r pen true cells = refl
 broken_off r pen false cells = refl
 
 -- If a row of the picture is not wrapped, its item leaves the terminal's row unwrapped.
 pub item_off : (r width : ℕ) (x y : RowValue) → length x.cells ≡ width →
-    x.wrapped ≡ false → (item_of_difference r 0 width x y).flag ≡ false
+    x.wrapped ≡ false → (item_of_difference r 0 width x y).wrapped ≡ false
 item_off r width x y e off =
     let w = range_written r 0 width y.wrapped x.cells y.cells in
-    let b = row_break r w.pen w.flag x.wrapped x.cells in
+    let b = row_break r w.pen w.wrapped x.wrapped x.cells in
     let t : is_whole 0 width (length x.cells) ≡ true = grind (arith, nat_tests) in
-    let none : b.flag ≡ false =
-    ap (λ (f : Bool). (row_break r w.pen w.flag f x.cells).flag) off ∙ broken_off r w.pen w.flag x.cells in
-    rw t (cond_both (x.wrapped && not b.flag)
+    let none : b.wrapped ≡ false =
+    ap (λ (f : Bool). (row_break r w.pen w.wrapped f x.cells).wrapped) off ∙ broken_off r w.pen w.wrapped x.cells in
+    rw t (cond_both (x.wrapped && not b.wrapped)
     (record {
       ops = (ops_then w.ops b).ops ++ (after_last_glyph r (ops_then w.ops b).pen x.cells).ops;
       pen = (after_last_glyph r (ops_then w.ops b).pen x.cells).pen;
-      flag = b.flag;
+      wrapped = b.wrapped;
     })
-    (ops_then w.ops b) (λ (v : Scripted). v.flag ≡ false)
+    (ops_then w.ops b) (λ (v : Scripted). v.wrapped ≡ false)
     (λ _. none) (λ _. none))
 
 -- ==== The item of a difference for a whole row is empty if the rows are equal, and only then.
@@ -197,23 +198,24 @@ some_text text wide a is h =
 same_ahead : (x y : CellValue) (xs ys : List CellValue) → x ≡ y → xs ≡ ys → x ∷ xs ≡ y ∷ ys
 same_ahead x y xs ys e f = ap (λ (z : CellValue). z ∷ xs) e ∙ ap (λ (zs : List CellValue). y ∷ zs) f
 
-cells_none : (r c : ℕ) (pen : Pen) (flag : Bool) (xs ys : List CellValue) →
+cells_none : (r c : ℕ) (pen : Pen) (wrapped : Bool) (xs ys : List CellValue) →
     length xs ≡ length ys → Paired xs → Paired ys → AllByRecursion IsCell xs →
-    bytes_of_all (cells_written r c pen flag 0 xs ys).ops ≡ [] → xs ≡ ys
+    bytes_of_all (cells_written r c pen wrapped 0 xs ys).ops ≡ [] → xs ≡ ys
 unfolding cells_written
-cells_none r c pen flag [] [] e h k is none = refl
-cells_none r c pen flag [] (y ∷ ys) e h k is none = absurd (omega arith)
-cells_none r c pen flag (x ∷ xs) [] e h k is none = absurd (omega arith)
-cells_none r c pen flag (right_half ∷ xs) (y ∷ ys) e h k is none = absurd h
-cells_none r c pen flag (blank a ∷ xs) (y ∷ ys) e h k is none =
-    by_test (λ p n. cells_none r (c + 1) pen flag xs ys (omega arith) h p is.1 n) (same_cell (blank a) y) refl none
+cells_none r c pen wrapped [] [] e h k is none = refl
+cells_none r c pen wrapped [] (y ∷ ys) e h k is none = absurd (omega arith)
+cells_none r c pen wrapped (x ∷ xs) [] e h k is none = absurd (omega arith)
+cells_none r c pen wrapped (right_half ∷ xs) (y ∷ ys) e h k is none = absurd h
+cells_none r c pen wrapped (blank a ∷ xs) (y ∷ ys) e h k is none =
+    by_test (λ p n. cells_none r (c + 1) pen wrapped xs ys (omega arith) h p is.1 n) (same_cell (blank a) y) refl none
   where
-    by_test : (more : Paired ys → bytes_of_all (cells_written r (c + 1) pen flag 0 xs ys).ops ≡ [] → xs ≡ ys)
+    by_test : (more : Paired ys → bytes_of_all (cells_written r (c + 1) pen wrapped 0 xs ys).ops ≡ [] → xs ≡ ys)
         (t : Bool) →
         same_cell (blank a) y ≡ t →
-        bytes_of_all (if t then cells_written r (c + 1) pen flag 0 xs ys
+        bytes_of_all (if t then cells_written r (c + 1) pen wrapped 0 xs ys
         else ops_then (placed_op pen r c a (erase_run pen.form (suc (blank_run a xs)) (drop (blank_run a xs) ys)))
-        (cells_written r (c + 1) (pen_in pen.form r c a) (wrapped_after_erasure flag (drop (blank_run a xs) ys)) (blank_run a xs) xs ys)).ops
+        (cells_written r (c + 1) (pen_in pen.form r c a) (wrapped_after_erasure wrapped (drop (blank_run a xs) ys))
+        (blank_run a xs) xs ys)).ops
         ≡ [] →
         blank a ∷ xs ≡ y ∷ ys
     by_test more true t none =
@@ -223,16 +225,17 @@ cells_none r c pen flag (blank a ∷ xs) (y ∷ ys) e h k is none =
         let op = erase_run pen.form (suc (blank_run a xs)) (drop (blank_run a xs) ys) in
         absurd (some_run pen.form (blank_run a xs) (drop (blank_run a xs) ys)
         (no_doing pen r c a op (none_of_ops (placed_op pen r c a op) _ none).0))
-cells_none r c pen flag (glyph text false a ∷ xs) (y ∷ ys) e h k is none =
-    by_test (λ p n. cells_none r (c + 1) pen flag xs ys (omega arith) h p is.1 n)
+cells_none r c pen wrapped (glyph text false a ∷ xs) (y ∷ ys) e h k is none =
+    by_test (λ p n. cells_none r (c + 1) pen wrapped xs ys (omega arith) h p is.1 n)
     (same_cell (glyph text false a) y) refl none
   where
-    by_test : (more : Paired ys → bytes_of_all (cells_written r (c + 1) pen flag 0 xs ys).ops ≡ [] → xs ≡ ys)
+    by_test : (more : Paired ys → bytes_of_all (cells_written r (c + 1) pen wrapped 0 xs ys).ops ≡ [] → xs ≡ ys)
         (t : Bool) →
         same_cell (glyph text false a) y ≡ t →
-        bytes_of_all (if t then cells_written r (c + 1) pen flag 0 xs ys
+        bytes_of_all (if t then cells_written r (c + 1) pen wrapped 0 xs ys
         else ops_then (placed_op pen r c a (Print text))
-        (cells_written r (c + 1) (pen_past pen.form r (c + 1) a text) (wrapped_after_glyph flag false (drop 1 ys)) 0 xs ys)).ops
+        (cells_written r (c + 1) (pen_past pen.form r (c + 1) a text) (wrapped_after_glyph wrapped false (drop 1 ys)) 0
+        xs ys)).ops
         ≡ [] →
         glyph text false a ∷ xs ≡ y ∷ ys
     by_test more true t none =
@@ -242,12 +245,12 @@ cells_none r c pen flag (glyph text false a ∷ xs) (y ∷ ys) e h k is none =
     by_test more false t none =
         absurd (some_text text false a is.0
         (no_doing pen r c a (Print text) (none_of_ops (placed_op pen r c a (Print text)) _ none).0))
-cells_none r c pen flag (glyph text true a ∷ []) (y ∷ ys) e h k is none = absurd h
-cells_none r c pen flag (glyph text true a ∷ blank b ∷ xs) (y ∷ ys) e h k is none = absurd h
-cells_none r c pen flag (glyph text true a ∷ glyph other wide b ∷ xs) (y ∷ ys) e h k is none = absurd h
-cells_none r c pen flag (glyph text true a ∷ right_half ∷ xs) (y ∷ []) e h k is none = absurd (omega arith)
-cells_none r c pen flag (glyph text true a ∷ right_half ∷ xs) (y ∷ z ∷ ys) e h k is none =
-    by_test (λ p n. cells_none r (c + 1 + 1) pen flag xs ys (omega arith) h p is.1.1 n)
+cells_none r c pen wrapped (glyph text true a ∷ []) (y ∷ ys) e h k is none = absurd h
+cells_none r c pen wrapped (glyph text true a ∷ blank b ∷ xs) (y ∷ ys) e h k is none = absurd h
+cells_none r c pen wrapped (glyph text true a ∷ glyph other wide b ∷ xs) (y ∷ ys) e h k is none = absurd h
+cells_none r c pen wrapped (glyph text true a ∷ right_half ∷ xs) (y ∷ []) e h k is none = absurd (omega arith)
+cells_none r c pen wrapped (glyph text true a ∷ right_half ∷ xs) (y ∷ z ∷ ys) e h k is none =
+    by_test (λ p n. cells_none r (c + 1 + 1) pen wrapped xs ys (omega arith) h p is.1.1 n)
     (same_cell (glyph text true a) y) refl none
   where
     pen_after : (z : CellValue) → Paired (glyph text true a ∷ z ∷ ys) → (right_half ≡ z) × Paired ys
@@ -256,19 +259,19 @@ cells_none r c pen flag (glyph text true a ∷ right_half ∷ xs) (y ∷ z ∷ y
     pen_after (glyph other wide b) p = absurd p
 
     next : (z : CellValue) → right_half ≡ z →
-        bytes_of_all (cells_written r (c + 1) pen flag 1 (right_half ∷ xs) (z ∷ ys)).ops ≡ [] →
-        bytes_of_all (cells_written r (c + 1 + 1) pen flag 0 xs ys).ops ≡ []
+        bytes_of_all (cells_written r (c + 1) pen wrapped 1 (right_half ∷ xs) (z ∷ ys)).ops ≡ [] →
+        bytes_of_all (cells_written r (c + 1 + 1) pen wrapped 0 xs ys).ops ≡ []
     next right_half e n = n
     next (blank b) e n = absurd (cc)
     next (glyph other wide b) e n = absurd (cc)
 
-    by_test : (more : Paired ys → bytes_of_all (cells_written r (c + 1 + 1) pen flag 0 xs ys).ops ≡ [] → xs ≡ ys)
+    by_test : (more : Paired ys → bytes_of_all (cells_written r (c + 1 + 1) pen wrapped 0 xs ys).ops ≡ [] → xs ≡ ys)
         (t : Bool) →
         same_cell (glyph text true a) y ≡ t →
-        bytes_of_all (if t then cells_written r (c + 1) pen flag 1 (right_half ∷ xs) (z ∷ ys)
+        bytes_of_all (if t then cells_written r (c + 1) pen wrapped 1 (right_half ∷ xs) (z ∷ ys)
         else ops_then (placed_op pen r c a (Print text))
         (cells_written r (c + 1) (pen_past pen.form r (c + 2) a text)
-        (wrapped_after_glyph flag true (drop 1 (z ∷ ys))) 1 (right_half ∷ xs) (z ∷ ys))).ops
+        (wrapped_after_glyph wrapped true (drop 1 (z ∷ ys))) 1 (right_half ∷ xs) (z ∷ ys))).ops
         ≡ [] →
         glyph text true a ∷ right_half ∷ xs ≡ y ∷ z ∷ ys
     by_test more true t none =
@@ -296,13 +299,13 @@ last_is_text cells h e is none =
 
 -- The operations that follow the cells of a row if all cells are displayed already.
 abbrev end_ops : ℕ → Bool → Bool → List CellValue → List Op
-end_ops r flag wanted cells =
-    let b = row_break r (pen_at r 0 default_attrs) flag wanted cells in
-    if wanted && not b.flag then b.ops ++ (after_last_glyph r b.pen cells).ops else b.ops
+end_ops r wrapped wanted cells =
+    let b = row_break r (pen_at r 0 default_attrs) wrapped wanted cells in
+    if wanted && not b.wrapped then b.ops ++ (after_last_glyph r b.pen cells).ops else b.ops
 
-end_none : (r : ℕ) (flag wanted : Bool) (cells : List CellValue) → 0 < length cells →
+end_none : (r : ℕ) (wrapped wanted : Bool) (cells : List CellValue) → 0 < length cells →
     Paired cells → AllByRecursion IsCell cells → (wanted ≡ true → ends cells ≡ false) →
-    bytes_of_all (end_ops r flag wanted cells) ≡ [] → wanted ≡ flag
+    bytes_of_all (end_ops r wrapped wanted cells) ≡ [] → wanted ≡ wrapped
 unfolding row_break
 end_none r true true cells some h is full none = refl
 end_none r false false cells some h is full none = refl
@@ -323,14 +326,14 @@ end_none r false true cells some h is full none =
     else record {
       ops = placed_op pen r (last_column cells) (attrs_of (last_glyph cells)) (Print (text_of (last_glyph cells)));
       pen = pen_after pen.form r cells;
-      flag = true;
+      wrapped = true;
     }).ops)
     (sym t)
     ∙ none in
     absurd (last_is_text cells h (full refl) is
     (no_doing pen r (last_column cells) (attrs_of (last_glyph cells)) (Print (text_of (last_glyph cells))) goes))
 
-end_nothing : (r : ℕ) (flag : Bool) (cells : List CellValue) → end_ops r flag flag cells ≡ []
+end_nothing : (r : ℕ) (wrapped : Bool) (cells : List CellValue) → end_ops r wrapped wrapped cells ≡ []
 unfolding row_break
 end_nothing r true cells = refl
 end_nothing r false cells = refl
@@ -344,20 +347,22 @@ whole_range w xs e = let n : w - 0 ≡ length xs = omega arith in ap (λ (k : �
     take_whole [] = refl
     take_whole (z ∷ zs) = ap (λ (r : List CellValue). z ∷ r) (take_whole zs)
 
-range_is : (r w : ℕ) (flag : Bool) (xs ys : List CellValue) → length xs ≡ w → Paired xs →
-    range_written r 0 w flag xs ys ≡ cells_written r 0 (pen_at r 0 default_attrs) flag 0 xs ys
-range_is r w flag xs ys e h =
-    ap (λ (z : List CellValue). cells_written r 0 (pen_at r 0 default_attrs) flag 0 (with_whole_start z) (with_whole_start_over z ys))
+range_is : (r w : ℕ) (wrapped : Bool) (xs ys : List CellValue) → length xs ≡ w → Paired xs →
+    range_written r 0 w wrapped xs ys ≡ cells_written r 0 (pen_at r 0 default_attrs) wrapped 0 xs ys
+range_is r w wrapped xs ys e h =
+    ap (λ (z : List CellValue). cells_written r 0 (pen_at r 0 default_attrs) wrapped 0 (with_whole_start z)
+    (with_whole_start_over z ys))
     (whole_range w xs e)
-    ∙ (ap (λ (z : List CellValue). cells_written r 0 (pen_at r 0 default_attrs) flag 0 z (with_whole_start_over xs ys))
-    (begun_paired xs h)
-    ∙ ap (λ (z : List CellValue). cells_written r 0 (pen_at r 0 default_attrs) flag 0 xs z) (begun_over_paired xs ys h))
+    ∙ (ap (λ (z : List CellValue). cells_written r 0 (pen_at r 0 default_attrs) wrapped 0 z
+    (with_whole_start_over xs ys)) (begun_paired xs h)
+    ∙ ap (λ (z : List CellValue). cells_written r 0 (pen_at r 0 default_attrs) wrapped 0 xs z)
+    (begun_over_paired xs ys h))
 
 -- The operations of an item after those of its cells.
 abbrev item_after : ℕ → Scripted → Bool → List CellValue → List Op
 item_after r w wanted cells =
-    let b = row_break r w.pen w.flag wanted cells in
-    if wanted && not b.flag then (w.ops ++ b.ops) ++ (after_last_glyph r b.pen cells).ops else w.ops ++ b.ops
+    let b = row_break r w.pen w.wrapped wanted cells in
+    if wanted && not b.wrapped then (w.ops ++ b.ops) ++ (after_last_glyph r b.pen cells).ops else w.ops ++ b.ops
 
 item_is : (r width : ℕ) (x y : RowValue) → length x.cells ≡ width → Paired x.cells →
     (item_of_difference r 0 width x y).ops
@@ -365,12 +370,13 @@ item_is : (r width : ℕ) (x y : RowValue) → length x.cells ≡ width → Pair
 item_is r width x y e h =
     let t : is_whole 0 width (length x.cells) ≡ true = grind (arith, nat_tests) in
     let w = range_written r 0 width y.wrapped x.cells y.cells in
-    let b = row_break r w.pen w.flag x.wrapped x.cells in
-    rw t (ops_of (x.wrapped && not b.flag) w b (after_last_glyph r b.pen x.cells)
+    let b = row_break r w.pen w.wrapped x.wrapped x.cells in
+    rw t (ops_of (x.wrapped && not b.wrapped) w b (after_last_glyph r b.pen x.cells)
     ∙ ap (λ (z : Scripted). item_after r z x.wrapped x.cells) (range_is r width y.wrapped x.cells y.cells e h))
   where
     ops_of : (t : Bool) (w b g : Scripted) →
-        (if t then record { ops = (w.ops ++ b.ops) ++ g.ops; pen = g.pen; flag = b.flag } else ops_then w.ops b).ops
+        (if t then record { ops = (w.ops ++ b.ops) ++ g.ops; pen = g.pen; wrapped = b.wrapped } else ops_then
+        w.ops b).ops
         ≡ (if t then (w.ops ++ b.ops) ++ g.ops else w.ops ++ b.ops)
     ops_of true w b g = refl
     ops_of false w b g = refl
@@ -391,11 +397,11 @@ item_none r width x y some hx hy none =
     let ey = hy.columns in
     let cells = recursion_from_All IsCell x.cells hx.sound in
     let w = cells_written r 0 (pen_at r 0 default_attrs) y.wrapped 0 x.cells y.cells in
-    let b = row_break r w.pen w.flag x.wrapped x.cells in
+    let b = row_break r w.pen w.wrapped x.wrapped x.cells in
     let is = ap bytes_of_all (sym (item_is r width x y ex px)) ∙ none in
     let same = cells_none r 0 (pen_at r 0 default_attrs) y.wrapped
     x.cells y.cells (ex ∙ sym ey) px (paired_of y.cells hy.paired) cells
-    (front_none (x.wrapped && not b.flag) w.ops b.ops (after_last_glyph r b.pen x.cells).ops is) in
+    (front_none (x.wrapped && not b.wrapped) w.ops b.ops (after_last_glyph r b.pen x.cells).ops is) in
     let stands : w ≡ no_ops (pen_at r 0 default_attrs) y.wrapped =
     ap (λ (z : List CellValue). cells_written r 0 (pen_at r 0 default_attrs) y.wrapped 0 x.cells z) (sym same)
     ∙ cells_nothing r 0 0 (pen_at r 0 default_attrs) y.wrapped x.cells in

@@ -42,42 +42,42 @@ pub record Joins (May : ℕ → ℕ → Type 0) (form : Form) (was : Bool) (j : 
   pub torn : CellValue
   pub whole : is_right_half torn ≡ false
   pub portable : form ≡ Portable →
-      Portably j.ops was start j.pen.is_shifted (two base done below above to (shown [] torn j.settled xs ys) j.flag
+      Portably j.ops was start j.pen.is_shifted (two base done below above to (shown [] torn j.settled xs ys) j.wrapped
       j.pen)
-  pub draws : DrawsIn May j.ops start (two base done below above to (shown [] torn j.settled xs ys) j.flag j.pen)
-  pub ready : Ready xs ys [] torn j.settled j.flag
+  pub draws : DrawsIn May j.ops start (two base done below above to (shown [] torn j.settled xs ys) j.wrapped j.pen)
+  pub ready : Ready xs ys [] torn j.settled j.wrapped
   pub within : Within j.pen height base.page.width
 
 -- With a wrap pending and the current attributes `b`, the first cell of a row is drawn.
 pub first_draws : (May : ℕ → ℕ → Type 0) (form : Form) (shifted : Bool) (base : Canvas) (done below : List RowValue)
-    (above xs ys : List CellValue) (on flag : Bool) (r height : ℕ) (b : Attrs) →
+    (above xs ys : List CellValue) (wrapped_above wrapped : Bool) (r height : ℕ) (b : Attrs) →
     base.page.origin ≡ false → length done ≡ r → base.page.bottom + 1 ≡ height → r + suc (suc (length below)) ≡ height →
     length xs ≡ base.page.width → length ys ≡ base.page.width → 0 < base.page.width →
-    ends above ≡ false → Paired xs → Paired ys → Sound flag ys → PrintsCells base.page.width xs →
+    ends above ≡ false → Paired xs → Paired ys → Sound wrapped ys → PrintsCells base.page.width xs →
     Lets May (r + 1) 0 xs ys → May (r + 1) 0 → (is_wide (at xs 0) ≡ true → May (r + 1) 1) →
     Joins May form shifted (first_written (r + 1) (record (pen_in form r base.page.width b) { is_shifted = shifted })
-    flag xs ys) base done
+    wrapped xs ys) base done
     below
-    (two base done below above on ys flag (pen_at r base.page.width b)) above true xs ys height
-first_draws May form shifted base done below above [] ys on flag r height b origin e
+    (two base done below above wrapped_above ys wrapped (pen_at r base.page.width b)) above true xs ys height
+first_draws May form shifted base done below above [] ys wrapped_above wrapped r height b origin e
     bottom rows hx hy pos full h k sound prints lets begin second = absurd (omega arith)
-first_draws May form shifted base done below above (x ∷ xs) [] on flag r height b
+first_draws May form shifted base done below above (x ∷ xs) [] wrapped_above wrapped r height b
     origin e bottom rows hx hy pos full h k sound prints lets begin second = absurd (omega arith)
-first_draws May form shifted base done below above (right_half ∷ xs) (y ∷ ys) on flag r
+first_draws May form shifted base done below above (right_half ∷ xs) (y ∷ ys) wrapped_above wrapped r
     height b origin e bottom rows hx hy pos full h k sound prints lets begin second = absurd h
-first_draws May form shifted base done below above (glyph text false a ∷ xs) (y ∷ ys) on flag
+first_draws May form shifted base done below above (glyph text false a ∷ xs) (y ∷ ys) wrapped_above wrapped
     r height b origin e bottom rows hx hy pos full h k sound prints lets begin second =
-    let now = wrapped_after_glyph flag false (drop 1 ys) in
+    let now = wrapped_after_glyph wrapped false (drop 1 ys) in
     record {
       torn = orphan false a;
       whole = refl;
       portable = λ is. subst (λ (k : Canvas). Portably (linked_ops form shifted base r b text a) shifted
-          (two base done below above on (y ∷ ys) flag (pen_at r base.page.width b)) (shifts form text) k)
+          (two base done below above wrapped_above (y ∷ ys) wrapped (pen_at r base.page.width b)) (shifts form text) k)
           (sym (two_mid base done below above true (with_glyph [] text false a ys) now (pen_at (r + 1) 1 a)))
-          (linked_portably form is shifted base done below above on y ys flag r b text false a origin e (omega arith)
-          full k sound (omega arith) prints.0);
+          (linked_portably form is shifted base done below above wrapped_above y ys wrapped r b text false a origin e
+          (omega arith) full k sound (omega arith) prints.0);
       draws = in_to May (linked_ops form shifted base r b text a) _ _ _
-          (linked_glyph May form shifted base done below above on y ys flag r b text
+          (linked_glyph May form shifted base done below above wrapped_above y ys wrapped r b text
           false a origin e (omega arith) full k sound (omega arith) prints.0
           (record {
             first = begin;
@@ -92,29 +92,30 @@ first_draws May form shifted base done below above (glyph text false a ∷ xs) (
         behind = tt;
         new = h;
         old = loose_step y ys (paired_loose (y ∷ ys) k);
-        sound = glyph_sound y ys flag text false a k sound;
+        sound = glyph_sound y ys wrapped text false a k sound;
       };
       within = record { row = omega arith; col = omega arith };
     }
-first_draws May form shifted base done below above (blank a ∷ xs) (y ∷ ys) on flag r
+first_draws May form shifted base done below above (blank a ∷ xs) (y ∷ ys) wrapped_above wrapped r
     height b origin e bottom rows hx hy pos full h k sound prints lets begin second =
     let top = done ++ row_of above true ∷ [] in
     let n : length top ≡ r + 1 = let l = length-append done (row_of above true ∷ []) in omega arith in
     let goal = blank a ∷ cells_after_cut (orphan false a) ys in
-    let now = flag && not (is_nil ys) in
-    let start = two base done below above on (y ∷ ys) flag (pen_at r base.page.width b) in
+    let now = wrapped && not (is_nil ys) in
+    let start = two base done below above wrapped_above (y ∷ ys) wrapped (pen_at r base.page.width b) in
     let spaced = mid base top below (with_glyph [] (0x20 ∷ []) false a ys)
-    (wrapped_after_glyph flag false (drop 1 ys)) (pen_at (r + 1) 1 a) in
+    (wrapped_after_glyph wrapped false (drop 1 ys)) (pen_at (r + 1) 1 a) in
     record {
       torn = orphan false a;
       whole = refl;
-      portable = λ is. blank_portably form is base done below above on y ys flag r b a shifted origin e (omega arith)
+      portable = λ is. blank_portably form is base done below above wrapped_above y ys wrapped r b a shifted origin e
+          (omega arith)
           pos full k
           sound;
       draws =
           regrouped (attr_ops_in form b a) (Print (0x20 ∷ [])) (back_op form (r + 1) 0 ∷ EraseChars 1 ∷ [])
           start spaced (two base done below above true goal now (pen_at (r + 1) 0 a))
-          (first_glyph May form base done below above on y ys flag r b (0x20 ∷ []) false a
+          (first_glyph May form base done below above wrapped_above y ys wrapped r b (0x20 ∷ []) false a
           e (omega arith) full k sound (omega arith) (space_prints base.page.width pos)
           (record {
             first = begin;
@@ -124,7 +125,7 @@ first_draws May form shifted base done below above (blank a ∷ xs) (y ∷ ys) o
           (in_to May (back_op form (r + 1) 0 ∷ EraseChars 1 ∷ []) spaced (mid base top below goal now (pen_at (r + 1) 0
           a))
           (two base done below above true goal now (pen_at (r + 1) 0 a))
-          (first_blank May form base top below y ys flag (r + 1) a origin n pos k sound begin)
+          (first_blank May form base top below y ys wrapped (r + 1) a origin n pos k sound begin)
           (sym (two_mid base done below above true goal now (pen_at (r + 1) 0 a))));
       ready = record {
         same = omega arith;
@@ -133,7 +134,7 @@ first_draws May form shifted base done below above (blank a ∷ xs) (y ∷ ys) o
         behind = tt;
         new = h;
         old = loose_step y ys (paired_loose (y ∷ ys) k);
-        sound = first_sound y ys flag a k sound;
+        sound = first_sound y ys wrapped a k sound;
       };
       within = record { row = omega arith; col = omega arith };
     }
@@ -143,27 +144,28 @@ first_draws May form shifted base done below above (blank a ∷ xs) (y ∷ ys) o
     regrouped ops op more a b c h k =
         subst (λ (z : List Op). DrawsIn May z a c) (append_assoc ops (op ∷ []) more)
         (in_then May (ops ++ op ∷ []) more a b c h k)
-first_draws May form shifted base done below above (glyph text true a ∷ []) (y ∷ ys) on flag
+first_draws May form shifted base done below above (glyph text true a ∷ []) (y ∷ ys) wrapped_above wrapped
     r height b origin e bottom rows hx hy pos full h k sound prints lets begin second = absurd h
-first_draws May form shifted base done below above (glyph text true a ∷ blank c ∷ xs) (y ∷ ys) on
-    flag r height b origin e bottom rows hx hy pos full h k sound prints lets begin second = absurd h
+first_draws May form shifted base done below above (glyph text true a ∷ blank c ∷ xs) (y ∷ ys) wrapped_above
+    wrapped r height b origin e bottom rows hx hy pos full h k sound prints lets begin second = absurd h
 first_draws May form shifted base done below above (glyph text true a ∷ glyph other wide c ∷ xs) (y ∷ ys)
-    on flag r height b origin e bottom rows hx hy pos full h k sound prints lets begin second = absurd h
-first_draws May form shifted base done below above (glyph text true a ∷ right_half ∷ xs) (y ∷ []) on
-    flag r height b origin e bottom rows hx hy pos full h k sound prints lets begin second = absurd (omega arith)
+    wrapped_above wrapped r height b origin e bottom rows hx hy pos full h k sound prints lets begin second = absurd h
+first_draws May form shifted base done below above (glyph text true a ∷ right_half ∷ xs) (y ∷ []) wrapped_above
+    wrapped r height b origin e bottom rows hx hy pos full h k sound prints lets begin second = absurd (omega arith)
 first_draws May form shifted base done below above (glyph text true a ∷ right_half ∷ xs) (y ∷ y2 ∷ ys)
-    on flag r height b origin e bottom rows hx hy pos full h k sound prints lets begin second =
-    let now = wrapped_after_glyph flag true ys in
+    wrapped_above wrapped r height b origin e bottom rows hx hy pos full h k sound prints lets begin second =
+    let now = wrapped_after_glyph wrapped true ys in
     record {
       torn = orphan true a;
       whole = refl;
       portable = λ is. subst (λ (k : Canvas). Portably (linked_ops form shifted base r b text a) shifted
-          (two base done below above on (y ∷ y2 ∷ ys) flag (pen_at r base.page.width b)) (shifts form text) k)
+          (two base done below above wrapped_above (y ∷ y2 ∷ ys) wrapped (pen_at r base.page.width b))
+          (shifts form text) k)
           (sym (two_mid base done below above true (with_glyph [] text true a (y2 ∷ ys)) now (pen_at (r + 1) 2 a)))
-          (linked_portably form is shifted base done below above on y (y2 ∷ ys) flag r b text true a origin e
-          (omega arith) full k sound (omega arith) prints.0);
+          (linked_portably form is shifted base done below above wrapped_above y (y2 ∷ ys) wrapped r b text
+          true a origin e (omega arith) full k sound (omega arith) prints.0);
       draws = in_to May (linked_ops form shifted base r b text a) _ _ _
-          (linked_glyph May form shifted base done below above on y (y2 ∷ ys) flag r b
+          (linked_glyph May form shifted base done below above wrapped_above y (y2 ∷ ys) wrapped r b
           text true a origin e (omega arith) full k sound (omega arith) prints.0
           (record {
             first = begin;
@@ -178,47 +180,50 @@ first_draws May form shifted base done below above (glyph text true a ∷ right_
         behind = tt;
         new = h;
         old = loose_step y2 ys (loose_step y (y2 ∷ ys) (paired_loose (y ∷ y2 ∷ ys) k));
-        sound = glyph_sound y (y2 ∷ ys) flag text true a k sound;
+        sound = glyph_sound y (y2 ∷ ys) wrapped text true a k sound;
       };
       within = record { row = omega arith; col = omega arith };
     }
 
 -- ---- the link
 
-pub ready_start : (xs ys : List CellValue) (flag : Bool) → length xs ≡ length ys →
-    Paired xs → Paired ys → Sound flag ys → Ready xs ys [] default_blank 0 flag
-ready_start xs ys flag same h k sound = record {
+pub ready_start : (xs ys : List CellValue) (wrapped : Bool) → length xs ≡ length ys →
+    Paired xs → Paired ys → Sound wrapped ys → Ready xs ys [] default_blank 0 wrapped
+ready_start xs ys wrapped same h k sound = record {
   same = omega arith;
   tail = no_tail xs ys same;
   le = omega arith;
   behind = tt;
   new = h;
   old = paired_loose ys k;
-  sound = subst (Sound flag) (sym (opened_paired default_blank ys k)) sound;
+  sound = subst (Sound wrapped) (sym (opened_paired default_blank ys k)) sound;
 }
 
 -- No link is needed if the row above already has the right wrapped flag.
 pub no_join : (May : ℕ → ℕ → Type 0) (base : Canvas) (done below : List RowValue)
-    (above xs ys : List CellValue) (on to flag : Bool) (pen : Pen) (height : ℕ) →
-    on ≡ to → length xs ≡ length ys → Paired xs → Paired ys → Sound flag ys → Within pen height base.page.width →
-    Joins May pen.form pen.is_shifted (no_link pen flag) base done below (two base done below above on ys flag pen)
+    (above xs ys : List CellValue) (wrapped_above to wrapped : Bool) (pen : Pen) (height : ℕ) →
+    wrapped_above ≡ to → length xs ≡ length ys → Paired xs → Paired ys → Sound wrapped ys → Within pen height
+    base.page.width →
+    Joins May pen.form pen.is_shifted (no_link pen wrapped) base done below
+    (two base done below above wrapped_above ys wrapped pen)
     above to xs ys height
-no_join May base done below above xs ys on to flag pen height t same h k sound within = record {
+no_join May base done below above xs ys wrapped_above to wrapped pen height t same h k sound within = record {
   torn = default_blank;
   whole = refl;
-  portable = λ _. subst (λ (c : Canvas). Portably [] pen.is_shifted (two base done below above on ys flag pen)
-      pen.is_shifted c)
-      (ap (λ (z : Bool). two base done below above z ys flag pen) t
-      ∙ ap (λ (z : List CellValue). two base done below above to z flag pen) (sym (opened_paired default_blank ys k)))
-      (nothing_portably pen.is_shifted (two base done below above on ys flag pen));
+  portable = λ _. subst (λ (c : Canvas). Portably [] pen.is_shifted
+      (two base done below above wrapped_above ys wrapped pen) pen.is_shifted c)
+      (ap (λ (z : Bool). two base done below above z ys wrapped pen) t
+      ∙ ap (λ (z : List CellValue). two base done below above to z wrapped pen)
+      (sym (opened_paired default_blank ys k)))
+      (nothing_portably pen.is_shifted (two base done below above wrapped_above ys wrapped pen));
   draws = record {
     draws =
-        ap (λ (z : Bool). Some (two base done below above z ys flag pen)) t
-        ∙ ap (λ (z : List CellValue). Some (two base done below above to z flag pen))
+        ap (λ (z : Bool). Some (two base done below above z ys wrapped pen)) t
+        ∙ ap (λ (z : List CellValue). Some (two base done below above to z wrapped pen))
         (sym (opened_paired default_blank ys k));
     touches = tt;
   };
-  ready = ready_start xs ys flag same h k sound;
+  ready = ready_start xs ys wrapped same h k sound;
   within = within;
 }
 
@@ -232,74 +237,82 @@ joins_after May form was middle ops j base done below a b above to xs ys height 
   torn = k.torn;
   whole = k.whole;
   portable = λ is. portably_both ops j.ops was middle j.pen.is_shifted a b
-      (two base done below above to (shown [] k.torn j.settled xs ys) j.flag j.pen) h.draws (go is) (k.portable is);
+      (two base done below above to (shown [] k.torn j.settled xs ys) j.wrapped j.pen) h.draws (go is) (k.portable is);
   draws =
-      in_then May ops j.ops a b (two base done below above to (shown [] k.torn j.settled xs ys) j.flag j.pen) h k.draws;
+      in_then May ops j.ops a b (two base done below above to (shown [] k.torn j.settled xs ys) j.wrapped
+      j.pen) h k.draws;
   ready = k.ready;
   within = k.within;
 }
 
-stays_on : (on b : Bool) → (not on || b) ≡ false → on ≡ true
-stays_on on b h = grind (arith, h)
+stays_on : (wrapped_above b : Bool) → (not wrapped_above || b) ≡ false → wrapped_above ≡ true
+stays_on wrapped_above b h = grind (arith, h)
 
 -- A link is needed in two cases: the row above is not wrapped, or the row begins with a glyph that the terminal does
 -- not display.
-link_cases : (on at other : Bool) → (not on || (at && other)) ≡ true → (on ≡ false) ⊎ ((at ≡ true) × (other ≡ true))
+link_cases : (wrapped_above at other : Bool) → (not wrapped_above || (at && other)) ≡ true → (wrapped_above ≡ false)
+    ⊎ ((at ≡ true) × (other ≡ true))
 link_cases true true true h = inr (refl, refl)
 link_cases true true false h = absurd (cc)
 link_cases true false other h = absurd (cc)
 link_cases false at other h = inl refl
 
-at_other : (on at other : Bool) → (not on || (at && other)) ≡ true → at ≡ false → on ≡ false
-at_other on at other h t = grind (arith, h, t)
+at_other : (wrapped_above at other : Bool) → (not wrapped_above || (at && other)) ≡ true → at ≡ false →
+    wrapped_above ≡ false
+at_other wrapped_above at other h t = grind (arith, h, t)
 
 starts_differ : (xs ys : List CellValue) → starts_other xs ys ≡ true → xs ≢ ys
 starts_differ xs ys h e =
     let k = starts_none ys in let z = ap (λ (z : List CellValue). starts_other z ys) (sym e) ∙ h in cc
 
 pub link_draws : (May : ℕ → ℕ → Type 0) (base : Canvas) (done below : List RowValue)
-    (above xs ys : List CellValue) (on flag : Bool) (r height : ℕ) (pen : Pen) →
+    (above xs ys : List CellValue) (wrapped_above wrapped : Bool) (r height : ℕ) (pen : Pen) →
     Reads base height base.page.width → length done ≡ r → r + suc (suc (length below)) ≡ height →
     length above ≡ base.page.width → length xs ≡ base.page.width → length ys ≡ base.page.width →
     Paired above → ends above ≡ false → PrintsCells base.page.width above →
-    Paired xs → Paired ys → Sound flag ys → PrintsCells base.page.width xs →
-    Within pen height base.page.width → (on ≡ false → (k : ℕ) → last_column above ≤ k → k < base.page.width → May r k) →
-    ((on ≡ false) ⊎ (xs ≢ ys) → Lets May (r + 1) 0 xs ys × May (r + 1) 0 × (is_wide (at xs 0) ≡ true → May (r + 1) 1)) →
-    Joins May pen.form pen.is_shifted (row_link r pen above on flag xs ys) base done below
-    (two base done below above on ys flag pen) above true xs ys height
+    Paired xs → Paired ys → Sound wrapped ys → PrintsCells base.page.width xs →
+    Within pen height base.page.width → (wrapped_above ≡ false → (k : ℕ) → last_column above ≤ k → k < base.page.width
+    → May r k) →
+    ((wrapped_above ≡ false) ⊎ (xs ≢ ys) → Lets May (r + 1) 0 xs ys × May (r + 1) 0
+    × (is_wide (at xs 0) ≡ true → May (r + 1) 1)) →
+    Joins May pen.form pen.is_shifted (row_link r pen above wrapped_above wrapped xs ys) base done below
+    (two base done below above wrapped_above ys wrapped pen) above true xs ys height
 unfolding row_link
-link_draws May base done below above xs ys on flag r height pen reads e
+link_draws May base done below above xs ys wrapped_above wrapped r height pen reads e
     rows ha hx hy pa full above_prints h k sound prints within last near =
     let behind = after_last_glyph r pen above in
-    let start = two base done below above on ys flag pen in
-    let test = not on || (is_at pen r (length above) && starts_other xs ys) in
-    cond_both test (ops_then_link behind.ops (first_written (r + 1) behind.pen flag xs ys))
-    (no_link pen flag) (λ (j : Linked). Joins May pen.form pen.is_shifted j base done below start above true xs ys
+    let start = two base done below above wrapped_above ys wrapped pen in
+    let test = not wrapped_above || (is_at pen r (length above) && starts_other xs ys) in
+    cond_both test (ops_then_link behind.ops (first_written (r + 1) behind.pen wrapped xs ys))
+    (no_link pen wrapped) (λ (j : Linked). Joins May pen.form pen.is_shifted j base done below start above true xs ys
     height)
     (λ (t : test ≡ true).
-    let goes = going_after_draws May base done (row_of ys flag ∷ below) above on r height pen reads e rows ha pa
-    full above_prints within (λ f. last (at_other on (is_at pen r (length above)) (starts_other xs ys) t f)) in
-    let may = near (by_cases (link_cases on (is_at pen r (length above)) (starts_other xs ys) t)) in
-    joins_after May pen.form pen.is_shifted behind.pen.is_shifted behind.ops (first_written (r + 1) behind.pen flag xs
-    ys) base
-    done below start (two base done below above on ys flag behind.pen) above true xs ys height goes.draws
-    (λ is. after_portably base done (row_of ys flag ∷ below) above on r height pen is reads e rows ha pa full
-    above_prints within)
-    (subst (λ (q : Pen). Joins May pen.form q.is_shifted (first_written (r + 1) q flag xs ys) base
-    done below (two base done below above on ys flag q) above true xs ys height)
+    let goes = going_after_draws May base done (row_of ys wrapped ∷ below) above wrapped_above r height pen reads
+    e rows ha pa
+    full above_prints within (λ f. last (at_other wrapped_above (is_at pen r (length above))
+    (starts_other xs ys) t f)) in
+    let may = near (by_cases (link_cases wrapped_above (is_at pen r (length above)) (starts_other xs ys) t)) in
+    joins_after May pen.form pen.is_shifted behind.pen.is_shifted behind.ops
+    (first_written (r + 1) behind.pen wrapped xs ys) base
+    done below start (two base done below above wrapped_above ys wrapped behind.pen) above true xs ys height goes.draws
+    (λ is. after_portably base done (row_of ys wrapped ∷ below) above wrapped_above r height pen is reads e
+    rows ha pa full above_prints within)
+    (subst (λ (q : Pen). Joins May pen.form q.is_shifted (first_written (r + 1) q wrapped xs ys) base
+    done below (two base done below above wrapped_above ys wrapped q) above true xs ys height)
     (sym goes.there)
     (subst (λ (f : Form). Joins May f behind.pen.is_shifted
-    (first_written (r + 1) (record behind.pen { row = r; col = base.page.width }) flag xs ys) base done below
-    (two base done below above on ys flag (record behind.pen { row = r; col = base.page.width })) above true xs ys
+    (first_written (r + 1) (record behind.pen { row = r; col = base.page.width }) wrapped xs ys) base done below
+    (two base done below above wrapped_above ys wrapped (record behind.pen { row = r; col = base.page.width }))
+    above true xs ys
     height)
     (after_form r pen above)
-    (first_draws May behind.pen.form behind.pen.is_shifted base done below above xs ys on flag r height
+    (first_draws May behind.pen.form behind.pen.is_shifted base done below above xs ys wrapped_above wrapped r height
     behind.pen.attrs reads.origin e
     reads.bottom rows hx hy reads.has_columns full h k sound prints may.0 may.1 may.2))))
-    (λ (t : test ≡ false). no_join May base done below above xs ys on true flag pen height
-    (stays_on on (is_at pen r (length above) && starts_other xs ys) t) (hx ∙ sym hy) h k sound within)
+    (λ (t : test ≡ false). no_join May base done below above xs ys wrapped_above true wrapped pen height
+    (stays_on wrapped_above (is_at pen r (length above) && starts_other xs ys) t) (hx ∙ sym hy) h k sound within)
   where
-    by_cases : (on ≡ false) ⊎ ((is_at pen r (length above) ≡ true) × (starts_other xs ys ≡ true)) →
-        (on ≡ false) ⊎ (xs ≢ ys)
+    by_cases : (wrapped_above ≡ false) ⊎ ((is_at pen r (length above) ≡ true) × (starts_other xs ys ≡ true)) →
+        (wrapped_above ≡ false) ⊎ (xs ≢ ys)
     by_cases (inl f) = inl f
     by_cases (inr both) = inr (starts_differ xs ys both.1)

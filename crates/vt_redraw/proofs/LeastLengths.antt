@@ -146,33 +146,35 @@ half_least text true a (glyph other wide b ∷ xs) h = absurd h
 
 -- The output for cells over default blanks is at least as long as the lower bound for the cells that are not yet
 -- written.
-cells_least : (r c : ℕ) (pen : Pen) (flag : Bool) (k : ℕ) (xs : List CellValue) (n : ℕ) → Loose xs → length xs ≤ n →
+cells_least : (r c : ℕ) (pen : Pen) (wrapped : Bool) (k : ℕ) (xs : List CellValue) (n : ℕ) → Loose xs → length xs ≤ n →
     drawn_least (Some pen.attrs) (drop k xs)
-    ≤ bytes_len (cells_written r c pen flag k xs (blanks default_attrs n)).ops
+    ≤ bytes_len (cells_written r c pen wrapped k xs (blanks default_attrs n)).ops
 unfolding cells_written same_cell
-cells_least r c pen flag zero [] n h le = omega arith
-cells_least r c pen flag (suc k) [] n h le = omega arith
-cells_least r c pen flag k (x ∷ xs) zero h le = absurd (omega (arith, le))
-cells_least r c pen flag (suc k) (x ∷ xs) (suc n) h le =
-    cells_least r (c + 1) pen flag k xs n (loose_step x xs h) (omega (arith, le))
-cells_least r c pen flag zero (right_half ∷ xs) (suc n) h le =
-    cells_least r (c + 1) pen flag 0 xs n (loose_step right_half xs h) (omega (arith, le))
-cells_least r c pen flag zero (blank a ∷ xs) (suc n) h le =
+cells_least r c pen wrapped zero [] n h le = omega arith
+cells_least r c pen wrapped (suc k) [] n h le = omega arith
+cells_least r c pen wrapped k (x ∷ xs) zero h le = absurd (omega (arith, le))
+cells_least r c pen wrapped (suc k) (x ∷ xs) (suc n) h le =
+    cells_least r (c + 1) pen wrapped k xs n (loose_step x xs h) (omega (arith, le))
+cells_least r c pen wrapped zero (right_half ∷ xs) (suc n) h le =
+    cells_least r (c + 1) pen wrapped 0 xs n (loose_step right_half xs h) (omega (arith, le))
+cells_least r c pen wrapped zero (blank a ∷ xs) (suc n) h le =
     let m = blank_run a xs in
     let ys = drop m (blanks default_attrs n) in
     let was = Some pen.attrs in
-    let rest = cells_written r (c + 1) (pen_in pen.form r c a) (wrapped_after_erasure flag ys) m xs (blanks default_attrs n) in
+    let rest = cells_written r (c + 1) (pen_in pen.form r c a) (wrapped_after_erasure wrapped ys) m xs
+    (blanks default_attrs n) in
     let op = erase_run pen.form (suc m) ys in
     let erased = placed_op pen r c a op in
-    cond_both (same_attrs a default_attrs) (cells_written r (c + 1) pen flag 0 xs (blanks default_attrs n))
+    cond_both (same_attrs a default_attrs) (cells_written r (c + 1) pen wrapped 0 xs (blanks default_attrs n))
     (ops_then erased rest) (λ (w : Scripted). drawn_least was (blank a ∷ xs) ≤ bytes_len w.ops)
     (λ (t : same_attrs a default_attrs ≡ true).
-    let least = cells_least r (c + 1) pen flag 0 xs n (loose_step (blank a) xs h) (omega (arith, le)) in
+    let least = cells_least r (c + 1) pen wrapped 0 xs n (loose_step (blank a) xs h) (omega (arith, le)) in
     let none = cond-true (same_attrs a default_attrs) (drawn_least was xs)
     (change_least was a + (0 + drawn_least (Some a) xs)) t in
     omega (arith, least, none))
     (λ (f : same_attrs a default_attrs ≡ false).
-    let least = cells_least r (c + 1) (pen_in pen.form r c a) (wrapped_after_erasure flag ys) m xs n (loose_step (blank a) xs h)
+    let least = cells_least r (c + 1) (pen_in pen.form r c a) (wrapped_after_erasure wrapped ys) m xs n
+    (loose_step (blank a) xs h)
     (omega (arith, le)) in
     let run = run_least a xs in
     let placed = placed_least pen r c a op in
@@ -180,12 +182,13 @@ cells_least r c pen flag zero (blank a ∷ xs) (suc n) h le =
     let some = cond-false (same_attrs a default_attrs) (drawn_least was xs)
     (change_least was a + (0 + drawn_least (Some a) xs)) f in
     omega (arith, least, run, placed, both, some))
-cells_least r c pen flag zero (glyph text wide a ∷ xs) (suc n) h le =
+cells_least r c pen wrapped zero (glyph text wide a ∷ xs) (suc n) h le =
     let k = glyph_columns wide - 1 in
     let next = pen_past pen.form r (c + glyph_columns wide) a text in
-    let on = wrapped_after_glyph flag wide (drop 1 (blanks default_attrs n)) in
-    let rest = cells_written r (c + 1) next on k xs (blanks default_attrs n) in
-    let least = cells_least r (c + 1) next on k xs n (loose_step (glyph text wide a) xs h) (omega (arith, le)) in
+    let is_wrapped = wrapped_after_glyph wrapped wide (drop 1 (blanks default_attrs n)) in
+    let rest = cells_written r (c + 1) next is_wrapped k xs (blanks default_attrs n) in
+    let least = cells_least r (c + 1) next is_wrapped k xs n (loose_step (glyph text wide a) xs h)
+    (omega (arith, le)) in
     let half = half_least text wide a xs h in
     let placed = placed_least pen r c a (Print text) in
     let both = bytes_both (placed_op pen r c a (Print text)) rest.ops in
@@ -198,16 +201,16 @@ cells_least r c pen flag zero (glyph text wide a ∷ xs) (suc n) h le =
 
 -- The output for a row over default blanks is at least as long as the lower bound for the cells that are not yet
 -- written.
-row_least : (r k : ℕ) (pen : Pen) (flag : Bool) (width : ℕ) (x : RowValue) → IsRow width x →
+row_least : (r k : ℕ) (pen : Pen) (wrapped : Bool) (width : ℕ) (x : RowValue) → IsRow width x →
     drawn_least (Some pen.attrs) (drop k x.cells)
-    ≤ bytes_len (row_written r k pen flag x (blanks default_attrs width)).ops
+    ≤ bytes_len (row_written r k pen wrapped x (blanks default_attrs width)).ops
 unfolding row_written
-row_least r k pen flag width x is =
+row_least r k pen wrapped width x is =
     let size = is.columns in
-    let cells = cells_written r 0 pen flag k x.cells (blanks default_attrs width) in
-    let least = cells_least r 0 pen flag k x.cells width (paired_loose x.cells (paired_of x.cells is.paired))
+    let cells = cells_written r 0 pen wrapped k x.cells (blanks default_attrs width) in
+    let least = cells_least r 0 pen wrapped k x.cells width (paired_loose x.cells (paired_of x.cells is.paired))
     (omega (arith, size)) in
-    let both = bytes_both cells.ops (row_break r cells.pen cells.flag x.wrapped x.cells).ops in
+    let both = bytes_both cells.ops (row_break r cells.pen cells.wrapped x.wrapped x.cells).ops in
     omega (arith, least, both)
 
 -- The output of a link, followed by the cells that it does not draw, is at least as long as the lower bound for the
@@ -216,38 +219,39 @@ abbrev Links : List CellValue → Linked → Type 0
 Links xs link =
     drawn_least None xs ≤ bytes_len link.ops + drawn_least (Some link.pen.attrs) (drop link.settled xs)
 
-unlinked_least : (pen : Pen) (flag : Bool) (xs : List CellValue) → Links xs (no_link pen flag)
-unlinked_least pen flag xs = let least = none_least (Some pen.attrs) xs in omega (arith, least)
+unlinked_least : (pen : Pen) (wrapped : Bool) (xs : List CellValue) → Links xs (no_link pen wrapped)
+unlinked_least pen wrapped xs = let least = none_least (Some pen.attrs) xs in omega (arith, least)
 
-first_least : (r : ℕ) (pen : Pen) (flag : Bool) (xs ys : List CellValue) → Paired xs →
-    Links xs (first_written r pen flag xs ys)
-first_least r pen flag [] ys h = omega arith
-first_least r pen flag (x ∷ xs) [] h = unlinked_least pen flag (x ∷ xs)
-first_least r pen flag (right_half ∷ xs) (y ∷ ys) h = absurd h
-first_least r pen flag (blank a ∷ xs) (y ∷ ys) h =
+first_least : (r : ℕ) (pen : Pen) (wrapped : Bool) (xs ys : List CellValue) → Paired xs →
+    Links xs (first_written r pen wrapped xs ys)
+first_least r pen wrapped [] ys h = omega arith
+first_least r pen wrapped (x ∷ xs) [] h = unlinked_least pen wrapped (x ∷ xs)
+first_least r pen wrapped (right_half ∷ xs) (y ∷ ys) h = absurd h
+first_least r pen wrapped (blank a ∷ xs) (y ∷ ys) h =
     let none = none_least (Some a) xs in
     cond_both (same_attrs a default_attrs) (drawn_least None xs) (0 + (0 + drawn_least (Some a) xs))
-    (λ (n : ℕ). n ≤ bytes_len (first_written r pen flag (blank a ∷ xs) (y ∷ ys)).ops + drawn_least (Some a) xs)
+    (λ (n : ℕ). n ≤ bytes_len (first_written r pen wrapped (blank a ∷ xs) (y ∷ ys)).ops + drawn_least (Some a) xs)
     (λ _. omega (arith, none)) (λ _. omega arith)
-first_least r pen flag (glyph text false a ∷ xs) (y ∷ ys) h =
+first_least r pen wrapped (glyph text false a ∷ xs) (y ∷ ys) h =
     let least = wrapped_least r pen a (Print text) in
     omega (arith, least)
-first_least r pen flag (glyph text true a ∷ right_half ∷ xs) (y ∷ ys) h =
+first_least r pen wrapped (glyph text true a ∷ right_half ∷ xs) (y ∷ ys) h =
     let least = wrapped_least r pen a (Print text) in
     omega (arith, least)
-first_least r pen flag (glyph text true a ∷ []) (y ∷ ys) h = absurd h
-first_least r pen flag (glyph text true a ∷ blank b ∷ xs) (y ∷ ys) h = absurd h
-first_least r pen flag (glyph text true a ∷ glyph other wide b ∷ xs) (y ∷ ys) h = absurd h
+first_least r pen wrapped (glyph text true a ∷ []) (y ∷ ys) h = absurd h
+first_least r pen wrapped (glyph text true a ∷ blank b ∷ xs) (y ∷ ys) h = absurd h
+first_least r pen wrapped (glyph text true a ∷ glyph other wide b ∷ xs) (y ∷ ys) h = absurd h
 
-link_least : (r : ℕ) (pen : Pen) (above x y : RowValue) (on : Bool) → Paired x.cells →
-    Links x.cells (link_of r pen above on x y)
+link_least : (r : ℕ) (pen : Pen) (above x y : RowValue) (wrapped_above : Bool) → Paired x.cells →
+    Links x.cells (link_of r pen above wrapped_above x y)
 unfolding row_link
-link_least r pen above x y on h =
+link_least r pen above x y wrapped_above h =
     let last = after_last_glyph r pen above.cells in
     let first = first_written (r + 1) last.pen y.wrapped x.cells y.cells in
     let none = unlinked_least pen y.wrapped x.cells in
-    cond_both above.wrapped (row_link r pen above.cells on y.wrapped x.cells y.cells) (no_link pen y.wrapped) (Links x.cells)
-    (λ _. cond_both (not on || (is_at pen r (length above.cells) && starts_other x.cells y.cells))
+    cond_both above.wrapped (row_link r pen above.cells wrapped_above y.wrapped x.cells y.cells) (no_link pen y.wrapped)
+    (Links x.cells)
+    (λ _. cond_both (not wrapped_above || (is_at pen r (length above.cells) && starts_other x.cells y.cells))
     (ops_then_link last.ops first) (no_link pen y.wrapped) (Links x.cells)
     (λ _.
     let least = first_least (r + 1) last.pen y.wrapped x.cells y.cells h in
@@ -257,22 +261,22 @@ link_least r pen above x y on h =
     (λ _. none)
 
 -- The output for rows over blank rows is at least as long as the lower bound for the first `k` rows.
-below_least : (width r : ℕ) (pen : Pen) (above : RowValue) (on : Bool) (k : ℕ) (xs : List RowValue) (n : ℕ) →
+below_least : (width r : ℕ) (pen : Pen) (above : RowValue) (wrapped_above : Bool) (k : ℕ) (xs : List RowValue) (n : ℕ) →
     AllByRecursion (IsRow width) (take k xs) → length xs ≤ n →
     rows_drawn_least (take k xs)
-    ≤ bytes_len (rows_below r pen above on xs (replicate n (blank_row default_attrs width))).ops
+    ≤ bytes_len (rows_below r pen above wrapped_above xs (replicate n (blank_row default_attrs width))).ops
 unfolding rows_below
-below_least width r pen above on zero xs n all le = omega arith
-below_least width r pen above on (suc k) [] n all le = omega arith
-below_least width r pen above on (suc k) (x ∷ xs) zero all le = absurd (omega (arith, le))
-below_least width r pen above on (suc k) (x ∷ xs) (suc n) all le =
+below_least width r pen above wrapped_above zero xs n all le = omega arith
+below_least width r pen above wrapped_above (suc k) [] n all le = omega arith
+below_least width r pen above wrapped_above (suc k) (x ∷ xs) zero all le = absurd (omega (arith, le))
+below_least width r pen above wrapped_above (suc k) (x ∷ xs) (suc n) all le =
     let y = blank_row default_attrs width in
-    let link = link_of r pen above on x y in
-    let row = row_written (r + 1) link.settled link.pen link.flag x y.cells in
-    let rest = rows_below (r + 1) row.pen x row.flag xs (replicate n y) in
-    let links = link_least r pen above x y on (paired_of x.cells all.0.paired) in
-    let least = row_least (r + 1) link.settled link.pen link.flag width x all.0 in
-    let more = below_least width (r + 1) row.pen x row.flag k xs n all.1 (omega (arith, le)) in
+    let link = link_of r pen above wrapped_above x y in
+    let row = row_written (r + 1) link.settled link.pen link.wrapped x y.cells in
+    let rest = rows_below (r + 1) row.pen x row.wrapped xs (replicate n y) in
+    let links = link_least r pen above x y wrapped_above (paired_of x.cells all.0.paired) in
+    let least = row_least (r + 1) link.settled link.pen link.wrapped width x all.0 in
+    let more = below_least width (r + 1) row.pen x row.wrapped k xs n all.1 (omega (arith, le)) in
     let both = bytes_both link.ops row.ops in
     let whole = bytes_both (link.ops ++ row.ops) rest.ops in
     omega (arith, links, least, more, both, whole)
@@ -287,10 +291,10 @@ rows_least width pen (suc k) (x ∷ xs) zero all le = absurd (omega (arith, le))
 rows_least width pen (suc k) (x ∷ xs) (suc n) all le =
     let y = blank_row default_attrs width in
     let row = row_written 0 0 pen y.wrapped x y.cells in
-    let rest = rows_below 0 row.pen x row.flag xs (replicate n y) in
+    let rest = rows_below 0 row.pen x row.wrapped xs (replicate n y) in
     let least = row_least 0 0 pen y.wrapped width x all.0 in
     let none = none_least (Some pen.attrs) x.cells in
-    let more = below_least width 0 row.pen x row.flag k xs n all.1 (omega (arith, le)) in
+    let more = below_least width 0 row.pen x row.wrapped k xs n all.1 (omega (arith, le)) in
     let whole = bytes_both row.ops rest.ops in
     omega (arith, least, none, more, whole)
 

@@ -108,48 +108,49 @@ prints_last width (x ∷ pre) text wide a h = prints_last width pre text wide a 
 
 -- ---- printed again
 
-still : (flag : Bool) → (flag && not false) ≡ flag
-still flag = grind (arith)
+still : (wrapped : Bool) → (wrapped && not false) ≡ wrapped
+still wrapped = grind (arith)
 
 -- A glyph can be printed over itself at the end of a row.
 pub print_again : (May : ℕ → ℕ → Type 0) (base : Canvas) (done below : List RowValue)
-    (pre : List CellValue) (text : List ℕ) (wide : Bool) (a : Attrs) (flag : Bool) (r : ℕ) →
+    (pre : List CellValue) (text : List ℕ) (wide : Bool) (a : Attrs) (wrapped : Bool) (r : ℕ) →
     Prints base.page.width text wide → length done ≡ r → length pre + glyph_columns wide ≡ base.page.width →
     Paired pre →
-    Sound flag (pre ++ glyph_cells text wide a) → ((k : ℕ) → length pre ≤ k → k < base.page.width → May r k) →
-    DrawsIn May (Print text ∷ []) (mid base done below (pre ++ glyph_cells text wide a) flag (pen_at r (length pre) a))
-    (mid base done below (pre ++ glyph_cells text wide a) flag (pen_at r (length pre + glyph_columns wide) a))
-print_again May base done below pre text false a flag r prints e w h sound may =
+    Sound wrapped (pre ++ glyph_cells text wide a) → ((k : ℕ) → length pre ≤ k → k < base.page.width → May r k) →
+    DrawsIn May (Print text ∷ []) (mid base done below (pre ++ glyph_cells text wide a) wrapped
+    (pen_at r (length pre) a))
+    (mid base done below (pre ++ glyph_cells text wide a) wrapped (pen_at r (length pre + glyph_columns wide) a))
+print_again May base done below pre text false a wrapped r prints e w h sound may =
     let row = pre ++ glyph text false a ∷ [] in
-    in_to May (Print text ∷ []) (mid base done below row flag (pen_at r (length pre) a))
-    (mid base done below row (flag && not false) (pen_at r (length pre + 1) a))
-    (mid base done below row flag (pen_at r (length pre + 1) a))
-    (print_in May base done below pre default_blank (glyph text false a) [] flag r (length pre) text
+    in_to May (Print text ∷ []) (mid base done below row wrapped (pen_at r (length pre) a))
+    (mid base done below row (wrapped && not false) (pen_at r (length pre + 1) a))
+    (mid base done below row wrapped (pen_at r (length pre + 1) a))
+    (print_in May base done below pre default_blank (glyph text false a) [] wrapped r (length pre) text
     false a prints (record { row = e; col = refl; fits = omega arith; front = h; sound = sound })
     (record {
       first = may (length pre) (omega arith) (omega arith);
       second = λ t. absurd (cc);
       torn = λ t. absurd (cc);
     }))
-    (ap (λ (f : Bool). mid base done below row f (pen_at r (length pre + 1) a)) (still flag))
-print_again May base done below pre text true a flag r prints e w h sound may =
+    (ap (λ (f : Bool). mid base done below row f (pen_at r (length pre + 1) a)) (still wrapped))
+print_again May base done below pre text true a wrapped r prints e w h sound may =
     let row = pre ++ glyph text true a ∷ right_half ∷ [] in
-    in_to May (Print text ∷ []) (mid base done below row flag (pen_at r (length pre) a))
-    (mid base done below row (flag && not false) (pen_at r (length pre + 2) a))
-    (mid base done below row flag (pen_at r (length pre + 2) a))
-    (print_in May base done below pre default_blank (glyph text true a) (right_half ∷ []) flag r (length pre)
+    in_to May (Print text ∷ []) (mid base done below row wrapped (pen_at r (length pre) a))
+    (mid base done below row (wrapped && not false) (pen_at r (length pre + 2) a))
+    (mid base done below row wrapped (pen_at r (length pre + 2) a))
+    (print_in May base done below pre default_blank (glyph text true a) (right_half ∷ []) wrapped r (length pre)
     text true a prints (record { row = e; col = refl; fits = omega arith; front = h; sound = sound })
     (record {
       first = may (length pre) (omega arith) (omega arith);
       second = λ _. may (length pre + 1) (omega arith) (omega arith);
       torn = λ t. absurd (cc);
     }))
-    (ap (λ (f : Bool). mid base done below row f (pen_at r (length pre + 2) a)) (still flag))
+    (ap (λ (f : Bool). mid base done below row f (pen_at r (length pre + 2) a)) (still wrapped))
 
 -- The operations move the pen after the last glyph of the row, and nothing else changes.
 pub record GoesAfter (May : ℕ → ℕ → Type 0) (w : Scripted) (base : Canvas) (done below : List RowValue)
-    (cells : List CellValue) (flag : Bool) (r : ℕ) (pen : Pen) : Type 0 where
-  pub draws : DrawsIn May w.ops (mid base done below cells flag pen) (mid base done below cells flag w.pen)
+    (cells : List CellValue) (wrapped : Bool) (r : ℕ) (pen : Pen) : Type 0 where
+  pub draws : DrawsIn May w.ops (mid base done below cells wrapped pen) (mid base done below cells wrapped w.pen)
   pub there : w.pen ≡ record w.pen { row = r; col = base.page.width }
 
 pub same_pen : (pen : Pen) (r c : ℕ) → is_at pen r c ≡ true → pen ≡ record pen { row = r; col = c }
@@ -160,20 +161,20 @@ same_pen pen r c t =
     ap (λ (z : ℕ). record pen { row = z }) e ∙ ap (λ (z : ℕ). record pen { row = r; col = z }) f
 
 pub going_after_draws : (May : ℕ → ℕ → Type 0) (base : Canvas) (done below : List RowValue)
-    (xs : List CellValue) (flag : Bool) (r height : ℕ) (pen : Pen) →
+    (xs : List CellValue) (wrapped : Bool) (r height : ℕ) (pen : Pen) →
     Reads base height base.page.width → length done ≡ r → r + suc (length below) ≡ height →
     length xs ≡ base.page.width →
     Paired xs → ends xs ≡ false → PrintsCells base.page.width xs → Within pen height base.page.width →
     (is_at pen r (length xs) ≡ false → (k : ℕ) → last_column xs ≤ k → k < base.page.width → May r k) →
-    GoesAfter May (after_last_glyph r pen xs) base done below xs flag r pen
-going_after_draws May base done below xs flag r height pen reads e rows w h full prints within may =
+    GoesAfter May (after_last_glyph r pen xs) base done below xs wrapped r pen
+going_after_draws May base done below xs wrapped r height pen reads e rows w h full prints within may =
     let again : Scripted = record {
       ops = placed_op pen r (last_column xs) (attrs_of (last_glyph xs)) (Print (text_of (last_glyph xs)));
       pen = pen_after pen.form r xs;
-      flag = true;
+      wrapped = true;
     } in
     cond_both (is_at pen r (length xs)) (no_ops pen true) again
-    (λ (v : Scripted). GoesAfter May v base done below xs flag r pen)
+    (λ (v : Scripted). GoesAfter May v base done below xs wrapped r pen)
     (λ (t : is_at pen r (length xs) ≡ true).
     record {
       draws = record { draws = refl; touches = tt };
@@ -182,24 +183,25 @@ going_after_draws May base done below xs flag r height pen reads e rows w h full
     (λ (t : is_at pen r (length xs) ≡ false). record {
       draws = last_cases
           (λ z k x. PrintsCells base.page.width z → length z ≡ base.page.width →
-          Sound flag z → ((j : ℕ) → k ≤ j → j < base.page.width → May r j) →
-          DrawsIn May (placed_op pen r k (attrs_of x) (Print (text_of x))) (mid base done below z flag pen)
-          (mid base done below z flag (pen_at r (length z) (attrs_of x))))
+          Sound wrapped z → ((j : ℕ) → k ≤ j → j < base.page.width → May r j) →
+          DrawsIn May (placed_op pen r k (attrs_of x) (Print (text_of x))) (mid base done below z wrapped pen)
+          (mid base done below z wrapped (pen_at r (length z) (attrs_of x))))
           (λ pre text wide a front p size sound mays.
           let n = length_glyph pre text wide a in
           let one = some_columns wide in
-          doing_draws May base done below (pre ++ glyph_cells text wide a) flag r (length pre) height pen a (Print text)
-          (mid base done below (pre ++ glyph_cells text wide a) flag
+          doing_draws May base done below (pre ++ glyph_cells text wide a) wrapped r (length pre) height pen a
+          (Print text)
+          (mid base done below (pre ++ glyph_cells text wide a) wrapped
           (pen_at r (length (pre ++ glyph_cells text wide a)) a))
           reads e rows (omega arith) within
           (in_to May (Print text ∷ [])
-          (mid base done below (pre ++ glyph_cells text wide a) flag (pen_at r (length pre) a))
-          (mid base done below (pre ++ glyph_cells text wide a) flag (pen_at r (length pre + glyph_columns wide) a))
-          (mid base done below (pre ++ glyph_cells text wide a) flag
+          (mid base done below (pre ++ glyph_cells text wide a) wrapped (pen_at r (length pre) a))
+          (mid base done below (pre ++ glyph_cells text wide a) wrapped (pen_at r (length pre + glyph_columns wide) a))
+          (mid base done below (pre ++ glyph_cells text wide a) wrapped
           (pen_at r (length (pre ++ glyph_cells text wide a)) a))
-          (print_again May base done below pre text wide a flag r
+          (print_again May base done below pre text wide a wrapped r
           (prints_last base.page.width pre text wide a p) e (sym n ∙ size) front sound mays)
-          (ap (λ (c : ℕ). mid base done below (pre ++ glyph_cells text wide a) flag (pen_at r c a)) (sym n))))
+          (ap (λ (c : ℕ). mid base done below (pre ++ glyph_cells text wide a) wrapped (pen_at r c a)) (sym n))))
           xs h full prints w (λ _. full) (may t);
       there = ap (λ (c : ℕ). record (pen_after pen.form r xs) { col = c }) w;
     })
@@ -215,9 +217,9 @@ abbrev pub blanked : Form → Bool → Attrs → List CellValue
 blanked form false a = blank a ∷ []
 blanked form true a = blank a ∷ second_left form a ∷ []
 
-falls_off : (flag : Bool) (pre : List CellValue) (y : CellValue) (ys : List CellValue) →
-    ends (y ∷ ys) ≡ true → kept flag (pre ++ y ∷ ys) ≡ false
-falls_off flag pre y ys e = let k = ends_append pre y ys ∙ e in grind (arith, k)
+falls_off : (wrapped : Bool) (pre : List CellValue) (y : CellValue) (ys : List CellValue) →
+    ends (y ∷ ys) ≡ true → kept wrapped (pre ++ y ∷ ys) ≡ false
+falls_off wrapped pre y ys e = let k = ends_append pre y ys ∙ e in grind (arith, k)
 
 pub erase_touches : (May : ℕ → ℕ → Type 0) (canvas : Canvas) (c n : ℕ) → c + n ≤ canvas.page.width →
     canvas.page.column ≡ c → Changes May c n canvas.page → Touches May (EraseChars n ∷ []) canvas
@@ -229,59 +231,61 @@ erase_touches May canvas c n fits e h =
     )
 
 erase_narrow : (May : ℕ → ℕ → Type 0) (base : Canvas) (done below : List RowValue)
-    (pre : List CellValue) (text : List ℕ) (b a : Attrs) (flag : Bool) (r : ℕ) →
+    (pre : List CellValue) (text : List ℕ) (b a : Attrs) (wrapped : Bool) (r : ℕ) →
     length done ≡ r → length pre + 1 ≡ base.page.width → Paired pre →
     ((k : ℕ) → length pre ≤ k → k < base.page.width → May r k) →
     DrawsIn May (EraseChars 1 ∷ [])
-    (mid base done below (pre ++ glyph text false b ∷ []) flag (pen_at r (length pre) a))
+    (mid base done below (pre ++ glyph text false b ∷ []) wrapped (pen_at r (length pre) a))
     (mid base done below (pre ++ blank a ∷ []) false (pen_at r (length pre) a))
-erase_narrow May base done below pre text b a flag r e w h may =
-    let start = mid base done below (pre ++ glyph text false b ∷ []) flag (pen_at r (length pre) a) in
+erase_narrow May base done below pre text b a wrapped r e w h may =
+    let start = mid base done below (pre ++ glyph text false b ∷ []) wrapped (pen_at r (length pre) a) in
     record {
-      draws = chars_erased base done below pre (glyph text false b ∷ []) flag r (length pre) 0 a e refl (omega arith) h
+      draws = chars_erased base done below pre (glyph text false b ∷ []) wrapped r (length pre) 0 a e refl
+          (omega arith) h
           ∙ ap (λ (f : Bool). Some (mid base done below (pre ++ blank a ∷ []) f (pen_at r (length pre) a)))
-          (falls_off flag pre (blank a) [] refl);
+          (falls_off wrapped pre (blank a) [] refl);
       touches = erase_touches May start (length pre) 1 (omega arith) refl
-          (changes_at May base done below pre (glyph text false b ∷ []) flag r (length pre) 1
+          (changes_at May base done below pre (glyph text false b ∷ []) wrapped r (length pre) 1
           (length pre) a e refl h (λ k low high. may k low (omega arith)) (λ t. absurd (cc)));
     }
 
 pub erase_last : (May : ℕ → ℕ → Type 0) (form : Form) (base : Canvas) (done below : List RowValue)
-    (pre : List CellValue) (text : List ℕ) (wide : Bool) (b a : Attrs) (flag : Bool) (r : ℕ) →
+    (pre : List CellValue) (text : List ℕ) (wide : Bool) (b a : Attrs) (wrapped : Bool) (r : ℕ) →
     length done ≡ r → length pre + glyph_columns wide ≡ base.page.width → Paired pre →
     ((k : ℕ) → length pre ≤ k → k < base.page.width → May r k) →
     DrawsIn May (EraseChars (erased_count form (glyph_columns wide)) ∷ [])
-    (mid base done below (pre ++ glyph_cells text wide b) flag (pen_at r (length pre) a))
+    (mid base done below (pre ++ glyph_cells text wide b) wrapped (pen_at r (length pre) a))
     (mid base done below (pre ++ blanked form wide a) false (pen_at r (length pre) a))
-erase_last May Fixed base done below pre text false b a flag r e w h may =
-    erase_narrow May base done below pre text b a flag r e w h may
-erase_last May Portable base done below pre text false b a flag r e w h may =
-    erase_narrow May base done below pre text b a flag r e w h may
-erase_last May Fixed base done below pre text true b a flag r e w h may =
-    let start = mid base done below (pre ++ glyph text true b ∷ right_half ∷ []) flag (pen_at r (length pre) a) in
+erase_last May Fixed base done below pre text false b a wrapped r e w h may =
+    erase_narrow May base done below pre text b a wrapped r e w h may
+erase_last May Portable base done below pre text false b a wrapped r e w h may =
+    erase_narrow May base done below pre text b a wrapped r e w h may
+erase_last May Fixed base done below pre text true b a wrapped r e w h may =
+    let start = mid base done below (pre ++ glyph text true b ∷ right_half ∷ []) wrapped (pen_at r (length pre) a) in
     record {
       draws =
           chars_erased base done below pre (glyph text true b ∷ right_half ∷ [])
-          flag r (length pre) 0 a e refl (omega arith) h
+          wrapped r (length pre) 0 a e refl (omega arith) h
           ∙ ap (λ (f : Bool). Some
           (mid base done below (pre ++ blank a ∷ default_blank ∷ []) f (pen_at r (length pre) a)))
-          (falls_off flag pre (blank a) (default_blank ∷ []) refl);
+          (falls_off wrapped pre (blank a) (default_blank ∷ []) refl);
       touches = erase_touches May start (length pre) 1 (omega arith) refl
-          (changes_at May base done below pre (glyph text true b ∷ right_half ∷ []) flag r (length pre) 1 (length pre) a
+          (changes_at May base done below pre (glyph text true b ∷ right_half ∷ []) wrapped r (length pre) 1
+          (length pre) a
           e refl h (λ k low high. may k low (omega arith)) (λ t. may (length pre + 1) (omega arith) (omega arith)));
     }
-erase_last May Portable base done below pre text true b a flag r e w h may =
-    let start = mid base done below (pre ++ glyph text true b ∷ right_half ∷ []) flag (pen_at r (length pre) a) in
+erase_last May Portable base done below pre text true b a wrapped r e w h may =
+    let start = mid base done below (pre ++ glyph text true b ∷ right_half ∷ []) wrapped (pen_at r (length pre) a) in
     record {
       draws =
           chars_erased base done below pre (glyph text true b ∷ right_half ∷ [])
-          flag r (length pre) 1 a e refl (omega arith) h
+          wrapped r (length pre) 1 a e refl (omega arith) h
           ∙ ap (λ (f : Bool). Some
           (mid base done below (pre ++ blank a ∷ blank a ∷ []) f (pen_at r (length pre) a)))
-          (falls_off flag pre (blank a) (blank a ∷ []) refl);
+          (falls_off wrapped pre (blank a) (blank a ∷ []) refl);
       touches = erase_touches May start (length pre) 2 (omega arith) refl
-          (changes_at May base done below pre (glyph text true b ∷ right_half ∷ []) flag r (length pre) 2 (length pre) a
-          e refl h (λ k low high. may k low (omega arith)) (λ t. absurd (cc)));
+          (changes_at May base done below pre (glyph text true b ∷ right_half ∷ []) wrapped r (length pre) 2
+          (length pre) a e refl h (λ k low high. may k low (omega arith)) (λ t. absurd (cc)));
     }
 
 print_two : (May : ℕ → ℕ → Type 0) (base : Canvas) (done below : List RowValue)
@@ -321,25 +325,25 @@ print_bare May Portable base done below pre text true b a r prints e w h may =
 -- The canvas after a break: the row is wrapped only if it must be.
 pub record Broke (May : ℕ → ℕ → Type 0) (w : Scripted) (base : Canvas) (done below : List RowValue)
     (start : Canvas) (cells : List CellValue) (wanted : Bool) (height : ℕ) : Type 0 where
-  pub draws : DrawsIn May w.ops start (mid base done below cells w.flag w.pen)
+  pub draws : DrawsIn May w.ops start (mid base done below cells w.wrapped w.pen)
   pub within : Within w.pen height base.page.width
-  pub keeps : w.flag ≡ true → wanted ≡ true
+  pub keeps : w.wrapped ≡ true → wanted ≡ true
 
 breaking_draws : (May : ℕ → ℕ → Type 0) (base : Canvas) (done below : List RowValue)
-    (xs : List CellValue) (flag wanted : Bool) (r height : ℕ) (pen : Pen) →
+    (xs : List CellValue) (wrapped wanted : Bool) (r height : ℕ) (pen : Pen) →
     Reads base height base.page.width → length done ≡ r → r + suc (length below) ≡ height →
     length xs ≡ base.page.width →
     Paired xs → ends xs ≡ false → PrintsCells base.page.width xs → Within pen height base.page.width →
     ((k : ℕ) → last_column xs ≤ k → k < base.page.width → May r k) →
-    Broke May (break_ops r pen xs) base done below (mid base done below xs flag pen) xs wanted height
-breaking_draws May base done below xs flag wanted r height pen reads e rows w h full prints within may = record {
+    Broke May (break_ops r pen xs) base done below (mid base done below xs wrapped pen) xs wanted height
+breaking_draws May base done below xs wrapped wanted r height pen reads e rows w h full prints within may = record {
   draws = last_cases
       (λ z k x. PrintsCells base.page.width z → length z ≡ base.page.width →
       ((j : ℕ) → k ≤ j → j < base.page.width → May r j) →
       DrawsIn May (move_ops pen r k
       ++ (EraseChars (erased_count pen.form (length z - k))
       ∷ (attr_ops_in pen.form pen.attrs (attrs_of x) ++ Print (text_of x) ∷ [])))
-      (mid base done below z flag pen) (mid base done below z false (pen_at r (length z) (attrs_of x))))
+      (mid base done below z wrapped pen) (mid base done below z false (pen_at r (length z) (attrs_of x))))
       (λ pre text wide a front p size mays.
       let n = length_glyph pre text wide a in
       let one = some_columns wide in
@@ -350,14 +354,15 @@ breaking_draws May base done below xs flag wanted r height pen reads e rows w h 
       let goal = mid base done below row false (pen_at r (length row) a) in
       subst (λ (m : ℕ). DrawsIn May (move_ops pen r c
       ++ (EraseChars (erased_count pen.form m) ∷ (attr_ops_in pen.form pen.attrs a ++ Print text ∷ [])))
-      (mid base done below row flag pen) goal) count
+      (mid base done below row wrapped pen) goal) count
       (in_then May (move_ops pen r c)
       (EraseChars (erased_count pen.form (glyph_columns wide)) ∷ (attr_ops_in pen.form pen.attrs a ++ Print text ∷ []))
-      (mid base done below row flag pen) (mid base done below row flag (pen_at r c pen.attrs)) goal
-      (going_there May base done below row flag r c height pen reads e rows (omega arith) within)
+      (mid base done below row wrapped pen) (mid base done below row wrapped (pen_at r c pen.attrs)) goal
+      (going_there May base done below row wrapped r c height pen reads e rows (omega arith) within)
       (in_then May (EraseChars (erased_count pen.form (glyph_columns wide)) ∷ []) (attr_ops_in pen.form pen.attrs a ++ Print text ∷ [])
-      (mid base done below row flag (pen_at r c pen.attrs)) (mid base done below gone false (pen_at r c pen.attrs)) goal
-      (erase_last May pen.form base done below pre text wide a pen.attrs flag r e (sym n ∙ size) front mays)
+      (mid base done below row wrapped (pen_at r c pen.attrs))
+      (mid base done below gone false (pen_at r c pen.attrs)) goal
+      (erase_last May pen.form base done below pre text wide a pen.attrs wrapped r e (sym n ∙ size) front mays)
       (in_then May (attr_ops_in pen.form pen.attrs a) (Print text ∷ [])
       (mid base done below gone false (pen_at r c pen.attrs)) (mid base done below gone false (pen_at r c a)) goal
       (quiet_in May (attr_ops_in pen.form pen.attrs a) (mid base done below gone false (pen_at r c pen.attrs))
@@ -381,21 +386,21 @@ and_true : (a b : Bool) → (a && b) ≡ true → a ≡ true
 and_true true b h = refl
 and_true false b h = h
 
-wants : (flag wanted : Bool) → (flag && not wanted) ≡ false → flag ≡ true → wanted ≡ true
-wants flag wanted h t = grind (arith, h, t)
+wants : (wrapped wanted : Bool) → (wrapped && not wanted) ≡ false → wrapped ≡ true → wanted ≡ true
+wants wrapped wanted h t = grind (arith, h, t)
 
 pub broken_draws : (May : ℕ → ℕ → Type 0) (base : Canvas) (done below : List RowValue)
-    (xs : List CellValue) (flag wanted : Bool) (r height : ℕ) (pen : Pen) →
+    (xs : List CellValue) (wrapped wanted : Bool) (r height : ℕ) (pen : Pen) →
     Reads base height base.page.width → length done ≡ r → r + suc (length below) ≡ height →
     length xs ≡ base.page.width →
-    Paired xs → Sound flag xs → PrintsCells base.page.width xs → Within pen height base.page.width →
+    Paired xs → Sound wrapped xs → PrintsCells base.page.width xs → Within pen height base.page.width →
     ((k : ℕ) → last_column xs ≤ k → k < base.page.width → May r k) →
-    Broke May (row_break r pen flag wanted xs) base done below (mid base done below xs flag pen) xs wanted height
+    Broke May (row_break r pen wrapped wanted xs) base done below (mid base done below xs wrapped pen) xs wanted height
 unfolding row_break
-broken_draws May base done below xs flag wanted r height pen reads e rows w h sound prints within may =
-    cond_both (flag && not wanted) (break_ops r pen xs) (no_ops pen flag)
-    (λ (v : Scripted). Broke May v base done below (mid base done below xs flag pen) xs wanted height)
-    (λ (t : (flag && not wanted) ≡ true). breaking_draws May base done below xs flag wanted
-    r height pen reads e rows w h (sound (and_true flag (not wanted) t)) prints within may)
-    (λ (t : (flag && not wanted) ≡ false).
-    record { draws = record { draws = refl; touches = tt }; within = within; keeps = wants flag wanted t })
+broken_draws May base done below xs wrapped wanted r height pen reads e rows w h sound prints within may =
+    cond_both (wrapped && not wanted) (break_ops r pen xs) (no_ops pen wrapped)
+    (λ (v : Scripted). Broke May v base done below (mid base done below xs wrapped pen) xs wanted height)
+    (λ (t : (wrapped && not wanted) ≡ true). breaking_draws May base done below xs wrapped wanted
+    r height pen reads e rows w h (sound (and_true wrapped (not wanted) t)) prints within may)
+    (λ (t : (wrapped && not wanted) ≡ false).
+    record { draws = record { draws = refl; touches = tt }; within = within; keeps = wants wrapped wanted t })

@@ -281,15 +281,15 @@ begun_length (right_half ∷ xs) = refl
 begun_length (blank a ∷ xs) = refl
 begun_length (glyph text wide a ∷ xs) = refl
 
-range_fits : (r start stop width : ℕ) (flag : Bool) (x : RowValue) (ys : List CellValue) → r < 65535 → start ≤ stop →
-    stop ≤ width → width < 2 ^ 16 → IsFitRow width x → FitsWritten (range_written r start stop flag x.cells ys)
-range_fits r start stop width flag x ys low le inside small fit =
+range_fits : (r start stop width : ℕ) (wrapped : Bool) (x : RowValue) (ys : List CellValue) → r < 65535 → start ≤ stop →
+    stop ≤ width → width < 2 ^ 16 → IsFitRow width x → FitsWritten (range_written r start stop wrapped x.cells ys)
+range_fits r start stop width wrapped x ys low le inside small fit =
     let xs = x.cells in
     let e = fit.columns in
     let l = length-drop start xs in
     let m = length-take (stop - start) (drop start xs) in
     let n = begun_length (in_range start stop xs) in
-    cells_fit r start (pen_at r start default_attrs) flag 0 (with_whole_start (in_range start stop xs))
+    cells_fit r start (pen_at r start default_attrs) wrapped 0 (with_whole_start (in_range start stop xs))
     (with_whole_start_over (in_range start stop xs) (drop start ys)) low (omega arith) tt plain
     (begun_fits (in_range start stop xs) (take_fits (stop - start) (drop start xs) (drop_fits start xs fit.cells)))
 
@@ -298,16 +298,16 @@ item_fits : (r start stop width : ℕ) (x y : RowValue) → r < 65535 → start 
 item_fits r start stop width x y low le inside some small fit =
     let e = fit.columns in
     let w = range_written r start stop y.wrapped x.cells y.cells in
-    let b = row_break r w.pen w.flag x.wrapped x.cells in
+    let b = row_break r w.pen w.wrapped x.wrapped x.cells in
     let full = ops_then w.ops b in
     let g = after_last_glyph r full.pen x.cells in
     let one = range_fits r start stop width y.wrapped x y.cells low le inside small fit in
-    let two = broken_fits r w.pen w.flag x.wrapped x.cells low (omega arith) (omega arith) one.attrs fit.cells in
+    let two = broken_fits r w.pen w.wrapped x.wrapped x.cells low (omega arith) (omega arith) one.attrs fit.cells in
     let both = fits_after w.ops b one.ops two in
     let three = after_fits r full.pen x.cells low (omega arith) (omega arith) both.attrs fit.cells in
     cond_both (is_whole start stop (length x.cells)) _ w FitsWritten
-    (λ _. cond_both (x.wrapped && not full.flag)
-    (record { ops = full.ops ++ g.ops; pen = g.pen; flag = full.flag }) full FitsWritten
+    (λ _. cond_both (x.wrapped && not full.wrapped)
+    (record { ops = full.ops ++ g.ops; pen = g.pen; wrapped = full.wrapped }) full FitsWritten
     (λ _. record { ops = fits_append full.ops g.ops both.ops three.ops; attrs = three.attrs }) (λ _. both))
     (λ _. one)
 
@@ -318,8 +318,8 @@ linked_fits r width x low small fit =
     let e = fit.columns in
     let first = first_written r (pen_at r 0 default_attrs) false x.cells ys in
     let one = first_fits r (pen_at r 0 default_attrs) false x.cells ys low plain fit.cells in
-    fits_after first.ops (cells_written r 0 first.pen first.flag first.settled x.cells ys) one.ops
-    (cells_fit r 0 first.pen first.flag first.settled x.cells ys low (omega arith)
+    fits_after first.ops (cells_written r 0 first.pen first.wrapped first.settled x.cells ys) one.ops
+    (cells_fit r 0 first.pen first.wrapped first.settled x.cells ys low (omega arith)
     (subst (λ (f : Form). IsCounted f (length ys)) (sym (first_form r (pen_at r 0 default_attrs) false x.cells ys)) tt) one.attrs fit.cells)
 
 pub difference_item_fits : (self : Picture) (r start stop : ℕ) (y : RowValue) → IsPicture self →

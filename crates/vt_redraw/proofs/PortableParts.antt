@@ -245,42 +245,42 @@ certain_glyph width text wide p f = by_length (length text == 1) refl where
 
 -- After the combining characters of a glyph, a wrap is pending if the glyph ends in the last column.
 pub marks_wrap : (ms : List ℕ) (base : Canvas) (done below : List RowValue) (pre : List CellValue) (o y : CellValue)
-    (ys : List CellValue) (flag : Bool) (r c : ℕ) (text : List ℕ) (was : Bool) (attrs : Attrs) (last : Bool)
+    (ys : List CellValue) (wrapped : Bool) (r c : ℕ) (text : List ℕ) (was : Bool) (attrs : Attrs) (last : Bool)
     (whole : List ℕ) (doubts : Doubts) → Grows base.page.width was text ms last whole →
-    Spot base done pre o y ys flag r c last → doubts.wrap ≡ wrap_at (c + glyph_columns was) base.page.width →
-    (doubts_after_text ms doubts (put base done below pre ys flag r c text was attrs)).wrap
+    Spot base done pre o y ys wrapped r c last → doubts.wrap ≡ wrap_at (c + glyph_columns was) base.page.width →
+    (doubts_after_text ms doubts (put base done below pre ys wrapped r c text was attrs)).wrap
     ≡ wrap_at (c + glyph_columns last) base.page.width
-marks_wrap [] base done below pre o y ys flag r c text was attrs last whole doubts h at_spot e =
+marks_wrap [] base done below pre o y ys wrapped r c text was attrs last whole doubts h at_spot e =
     e ∙ ap (λ (w : Bool). wrap_at (c + glyph_columns w) base.page.width) h.0
-marks_wrap (m ∷ ms) base done below pre o y ys flag r c text was attrs last whole doubts h at_spot e =
+marks_wrap (m ∷ ms) base done below pre o y ys wrapped r c text was attrs last whole doubts h at_spot e =
     let now = next base.page.width was text m in
     let longer = text ++ encode_utf8 m in
     let le = grows_le base.page.width now longer ms last whole h.1.1 in
-    let here = put base done below pre ys flag r c text was attrs in
+    let here = put base done below pre ys wrapped r c text was attrs in
     let later = doubts_after (Graphic m) doubts here in
-    let same = printed m here (put base done below pre ys flag r c longer now attrs)
-    (mark_drawn base done below pre o y ys flag r c text was attrs m h.0.0 h.0.1 h.1.0
-    (wider_spot base done pre o y ys flag r c now last le at_spot)) in
+    let same = printed m here (put base done below pre ys wrapped r c longer now attrs)
+    (mark_drawn base done below pre o y ys wrapped r c text was attrs m h.0.0 h.0.1 h.1.0
+    (wider_spot base done pre o y ys wrapped r c now last le at_spot)) in
     ap (λ (k : Canvas). (doubts_after_text ms later k).wrap) same
-    ∙ marks_wrap ms base done below pre o y ys flag r c longer now attrs last whole later h.1.1 at_spot
+    ∙ marks_wrap ms base done below pre o y ys wrapped r c longer now attrs last whole later h.1.1 at_spot
     (ap (λ (k : Canvas). wrap_at k.page.column base.page.width) same)
 
 text_wrap : (base : Canvas) (done below : List RowValue) (pre : List CellValue) (o y : CellValue)
-    (ys : List CellValue) (flag : Bool) (r c : ℕ) (text : List ℕ) (wide : Bool) (attrs : Attrs) (doubts : Doubts) →
-    Prints base.page.width text wide → Spot base done pre o y ys flag r c wide →
-    (doubts_after_text (chars text) doubts (spot base done below pre o y ys flag r c attrs)).wrap
+    (ys : List CellValue) (wrapped : Bool) (r c : ℕ) (text : List ℕ) (wide : Bool) (attrs : Attrs) (doubts : Doubts) →
+    Prints base.page.width text wide → Spot base done pre o y ys wrapped r c wide →
+    (doubts_after_text (chars text) doubts (spot base done below pre o y ys wrapped r c attrs)).wrap
     ≡ wrap_at (c + glyph_columns wide) base.page.width
-text_wrap base done below pre o y ys flag r c text wide attrs doubts prints at_spot =
-    let start = spot base done below pre o y ys flag r c attrs in
+text_wrap base done below pre o y ys wrapped r c text wide attrs doubts prints at_spot =
+    let start = spot base done below pre o y ys wrapped r c attrs in
     let le = grows_le base.page.width prints.start (encode_utf8 prints.first) prints.marks wide text prints.grows in
     let same = printed prints.first start
-    (put base done below pre ys flag r c (encode_utf8 prints.first) prints.start attrs)
-    (first_drawn base done below pre o y ys flag r c prints.first prints.start attrs prints.columns
-    (wider_spot base done pre o y ys flag r c prints.start wide le at_spot)) in
+    (put base done below pre ys wrapped r c (encode_utf8 prints.first) prints.start attrs)
+    (first_drawn base done below pre o y ys wrapped r c prints.first prints.start attrs prints.columns
+    (wider_spot base done pre o y ys wrapped r c prints.start wide le at_spot)) in
     let later = doubts_after (Graphic prints.first) doubts start in
     ap (λ (cs : List ℕ). (doubts_after_text cs doubts start).wrap) prints.is
     ∙ (ap (λ (k : Canvas). (doubts_after_text prints.marks later k).wrap) same
-    ∙ marks_wrap prints.marks base done below pre o y ys flag r c (encode_utf8 prints.first) prints.start attrs wide
+    ∙ marks_wrap prints.marks base done below pre o y ys wrapped r c (encode_utf8 prints.first) prints.start attrs wide
     text
     later prints.grows at_spot (ap (λ (k : Canvas). wrap_at k.page.column base.page.width) same))
 
@@ -305,40 +305,41 @@ some_columns false = omega arith
 
 -- A glyph is printed at a boundary of a row where there is room for it.
 pub glyph_portably : (base : Canvas) (done below : List RowValue) (pre : List CellValue) (o y : CellValue)
-    (ys : List CellValue) (flag : Bool) (r c : ℕ) (text : List ℕ) (wide : Bool) (attrs : Attrs) →
-    Prints base.page.width text wide → Spot base done pre o y ys flag r c wide →
-    Portably (Print text ∷ []) false (spot base done below pre o y ys flag r c attrs) (shifts Portable text)
-    (put base done below pre ys flag r c text wide attrs)
-glyph_portably base done below pre o y ys flag r c text wide attrs prints at_spot doubts known =
-    let start = spot base done below pre o y ys flag r c attrs in
+    (ys : List CellValue) (wrapped : Bool) (r c : ℕ) (text : List ℕ) (wide : Bool) (attrs : Attrs) →
+    Prints base.page.width text wide → Spot base done pre o y ys wrapped r c wide →
+    Portably (Print text ∷ []) false (spot base done below pre o y ys wrapped r c attrs) (shifts Portable text)
+    (put base done below pre ys wrapped r c text wide attrs)
+glyph_portably base done below pre o y ys wrapped r c text wide attrs prints at_spot doubts known =
+    let start = spot base done below pre o y ys wrapped r c attrs in
     let some = some_columns wide in
     let fits = at_spot.fits in
     let place = known.place refl in
     record {
       left = doubts_after_text (chars text) doubts start;
       portable = (
-        glyph_at_spot base done below pre o y ys flag r c text wide attrs doubts prints at_spot
+        glyph_at_spot base done below pre o y ys wrapped r c text wide attrs doubts prints at_spot
             (may_print_placed prints.first doubts (known.inside (omega (arith, some, fits))) place),
         λ after e. tt,
       );
       leaves = λ after e. refl;
       known = exact_known (shifts Portable text) (doubts_after_text (chars text) doubts start)
-          (put base done below pre ys flag r c text wide attrs).page
-          (text_wrap base done below pre o y ys flag r c text wide attrs doubts prints at_spot)
+          (put base done below pre ys wrapped r c text wide attrs).page
+          (text_wrap base done below pre o y ys wrapped r c text wide attrs doubts prints at_spot)
           (text_place base.page.width text wide doubts start prints place);
     }
 
 -- ---- one operation at a position
 
-pub doing_portably : (base : Canvas) (done below : List RowValue) (row : List CellValue) (flag : Bool) (r c height : ℕ)
+pub doing_portably : (base : Canvas) (done below : List RowValue) (row : List CellValue) (wrapped : Bool)
+    (r c height : ℕ)
     (pen : Pen) (attrs : Attrs) (op : Op) (now : Bool) (goal : Canvas) → pen.form ≡ Portable →
     Reads base height base.page.width → length done ≡ r → r + suc (length below) ≡ height → c < base.page.width →
     Within pen height base.page.width →
-    Portably (op ∷ []) false (mid base done below row flag (pen_at r c attrs)) now goal →
-    Portably (placed_op pen r c attrs op) pen.is_shifted (mid base done below row flag pen) now goal
-doing_portably base done below row flag r c height pen attrs op now goal is reads e h lt within go =
-    let rows = done ++ row_of row flag ∷ below in
-    let size = rows_size done below (row_of row flag) r height e h in
+    Portably (op ∷ []) false (mid base done below row wrapped (pen_at r c attrs)) now goal →
+    Portably (placed_op pen r c attrs op) pen.is_shifted (mid base done below row wrapped pen) now goal
+doing_portably base done below row wrapped r c height pen attrs op now goal is reads e h lt within go =
+    let rows = done ++ row_of row wrapped ∷ below in
+    let size = rows_size done below (row_of row wrapped) r height e h in
     portably_both (move_ops pen r c) (attr_ops_in pen.form pen.attrs attrs ++ op ∷ []) pen.is_shifted false now
     (at_pen base rows pen) (at_pen base rows (pen_at r c pen.attrs)) goal
     (going_draws base rows pen r c height base.page.width reads size within (omega arith) lt)
@@ -373,21 +374,22 @@ erased_goes ops doubts a b keeps placed inside = record {
 }
 
 pub run_portably : (form : Form) → form ≡ Portable → (base : Canvas) (done below : List RowValue) (pre : List CellValue)
-    (o y : CellValue) (ys : List CellValue) (flag : Bool) (r c n : ℕ) (attrs : Attrs) (goal : Canvas) →
+    (o y : CellValue) (ys : List CellValue) (wrapped : Bool) (r c n : ℕ) (attrs : Attrs) (goal : Canvas) →
     length done ≡ r → length pre ≡ c → c < base.page.width → Loose (drop n ys) → is_right_half o ≡ false →
     goal.page.column ≡ c → goal.page.width ≡ base.page.width →
     Portably (erase_run form (suc n) (drop n ys) ∷ []) false
-    (mid base done below (pre ++ cells_after_cut o (y ∷ ys)) flag (pen_at r c attrs)) false goal
-run_portably Fixed is base done below pre o y ys flag r c n attrs goal e l fits loose whole col wide doubts known =
+    (mid base done below (pre ++ cells_after_cut o (y ∷ ys)) wrapped (pen_at r c attrs)) false goal
+run_portably Fixed is base done below pre o y ys wrapped r c n attrs goal e l fits loose whole col wide doubts known =
     absurd cc
-run_portably Portable is base done below pre o y ys flag r c n attrs goal e l fits loose whole col wide doubts known =
+run_portably Portable is base done below pre o y ys wrapped r c n attrs goal e l fits loose whole col wide
+    doubts known =
     by_rest (drop n ys) refl
   where
     old : List CellValue
     old = cells_after_cut o (y ∷ ys)
 
     start : Canvas
-    start = mid base done below (pre ++ old) flag (pen_at r c attrs)
+    start = mid base done below (pre ++ old) wrapped (pen_at r c attrs)
 
     placed : IsPlaced doubts
     placed = record { wrap = known.inside fits; place = known.place refl }
@@ -395,7 +397,7 @@ run_portably Portable is base done below pre o y ys flag r c n attrs goal e l fi
     boundary : (j k : ℕ) → j ≡ c + k → is_right_half (at old k) ≡ false → IsBoundary j (cursor_row start.page).cells
     boundary j k i f =
         ap (λ (row : RowValue). is_right_half (at row.cells j))
-        (cursor_row_is base done below (pre ++ old) flag (pen_at r c attrs) e)
+        (cursor_row_is base done below (pre ++ old) wrapped (pen_at r c attrs) e)
         ∙ (ap is_right_half (at_behind pre old c k j l i) ∙ f)
 
     begin : IsBoundary c (cursor_row start.page).cells

@@ -327,13 +327,13 @@ room_for false c width h e = absurd (cc)
 
 -- A combining character does not move the glyph that it joins to the next row, if that row has room for the glyph.
 not_carried : (base : Canvas) (done below : List RowValue) (pre : List CellValue) (o y : CellValue) (ys : List CellValue)
-    (flag : Bool) (r c : ℕ) (text : List ℕ) (was wide : Bool) (attrs : Attrs) (m : ℕ) → has_room text ≡ true →
-    Spot base done pre o y ys flag r c wide → (next base.page.width was text m ≡ true → wide ≡ true) →
-    carries m (put base done below pre ys flag r c text was attrs).page ≡ false
-not_carried base done below pre o y ys flag r c text was wide attrs m room at_spot more =
+    (wrapped : Bool) (r c : ℕ) (text : List ℕ) (was wide : Bool) (attrs : Attrs) (m : ℕ) → has_room text ≡ true →
+    Spot base done pre o y ys wrapped r c wide → (next base.page.width was text m ≡ true → wide ≡ true) →
+    carries m (put base done below pre ys wrapped r c text was attrs).page ≡ false
+not_carried base done below pre o y ys wrapped r c text was wide attrs m room at_spot more =
     let rest = cells_after_cut (orphan was attrs) (rest_after was ys) in
-    let flagged = wrapped_after_glyph flag was (drop 1 ys) in
-    stays m (put base done below pre ys flag r c text was attrs).page c text was attrs
+    let flagged = wrapped_after_glyph wrapped was (drop 1 ys) in
+    stays m (put base done below pre ys wrapped r c text was attrs).page c text was attrs
     (mark_column_is base done below pre text was attrs rest flagged r c at_spot.row at_spot.col)
     (marked_cell base done below pre text was attrs rest flagged r c at_spot.row at_spot.col) room
     (λ narrow t. ne_eqb (c + glyph_columns was) base.page.width
@@ -341,52 +341,52 @@ not_carried base done below pre o y ys flag r c text was wide attrs m room at_sp
     let l = room_for wide c base.page.width at_spot.fits (more t) in absurd (omega (arith, k, l, same))))
 
 pub marks_join : (ms : List ℕ) (base : Canvas) (done below : List RowValue) (pre : List CellValue) (o y : CellValue)
-    (ys : List CellValue) (flag : Bool) (r c : ℕ) (text : List ℕ) (was : Bool) (attrs : Attrs) (last : Bool)
-    (whole : List ℕ) → Grows base.page.width was text ms last whole → Spot base done pre o y ys flag r c last →
-    AreJoined ms (put base done below pre ys flag r c text was attrs)
-marks_join [] base done below pre o y ys flag r c text was attrs last whole h at_spot = tt
-marks_join (m ∷ ms) base done below pre o y ys flag r c text was attrs last whole h at_spot =
+    (ys : List CellValue) (wrapped : Bool) (r c : ℕ) (text : List ℕ) (was : Bool) (attrs : Attrs) (last : Bool)
+    (whole : List ℕ) → Grows base.page.width was text ms last whole → Spot base done pre o y ys wrapped r c last →
+    AreJoined ms (put base done below pre ys wrapped r c text was attrs)
+marks_join [] base done below pre o y ys wrapped r c text was attrs last whole h at_spot = tt
+marks_join (m ∷ ms) base done below pre o y ys wrapped r c text was attrs last whole h at_spot =
     let now = next base.page.width was text m in
     let longer = text ++ encode_utf8 m in
     let le = grows_le base.page.width now longer ms last whole h.1.1 in
-    let same = printed m (put base done below pre ys flag r c text was attrs)
-    (put base done below pre ys flag r c longer now attrs)
-    (mark_drawn base done below pre o y ys flag r c text was attrs m h.0.0 h.0.1 h.1.0
-    (wider_spot base done pre o y ys flag r c now last le at_spot)) in (
+    let same = printed m (put base done below pre ys wrapped r c text was attrs)
+    (put base done below pre ys wrapped r c longer now attrs)
+    (mark_drawn base done below pre o y ys wrapped r c text was attrs m h.0.0 h.0.1 h.1.0
+    (wider_spot base done pre o y ys wrapped r c now last le at_spot)) in (
       (
         h.0.0.1,
-        not_carried base done below pre o y ys flag r c text was last attrs m h.0.1 at_spot
+        not_carried base done below pre o y ys wrapped r c text was last attrs m h.0.1 at_spot
             (ends_wide base.page.width now longer ms last whole h.1.1),
       ),
       subst (AreJoined ms) (sym same)
-          (marks_join ms base done below pre o y ys flag r c longer now attrs last whole h.1.1 at_spot),
+          (marks_join ms base done below pre o y ys wrapped r c longer now attrs last whole h.1.1 at_spot),
     )
 
 -- Text printed at a boundary of a row is portable.
 pub glyph_at_spot : (base : Canvas) (done below : List RowValue) (pre : List CellValue) (o y : CellValue)
-    (ys : List CellValue) (flag : Bool) (r c : ℕ) (text : List ℕ) (wide : Bool) (attrs : Attrs) (doubts : Doubts) →
-    (prints : Prints base.page.width text wide) → Spot base done pre o y ys flag r c wide →
+    (ys : List CellValue) (wrapped : Bool) (r c : ℕ) (text : List ℕ) (wide : Bool) (attrs : Attrs) (doubts : Doubts) →
+    (prints : Prints base.page.width text wide) → Spot base done pre o y ys wrapped r c wide →
     may_print prints.first doubts.wrap doubts.is_shifted ≡ true →
-    IsPortableOp (Print text) doubts (spot base done below pre o y ys flag r c attrs)
-glyph_at_spot base done below pre o y ys flag r c text wide attrs doubts prints at_spot may =
-    let start = spot base done below pre o y ys flag r c attrs in
-    let after = put base done below pre ys flag r c (encode_utf8 prints.first) prints.start attrs in
+    IsPortableOp (Print text) doubts (spot base done below pre o y ys wrapped r c attrs)
+glyph_at_spot base done below pre o y ys wrapped r c text wide attrs doubts prints at_spot may =
+    let start = spot base done below pre o y ys wrapped r c attrs in
+    let after = put base done below pre ys wrapped r c (encode_utf8 prints.first) prints.start attrs in
     let le = grows_le base.page.width prints.start (encode_utf8 prints.first) prints.marks wide text prints.grows in
     let fits = at_spot.fits in
     let same = printed prints.first start after
-    (first_drawn base done below pre o y ys flag r c prints.first prints.start attrs prints.columns
-    (wider_spot base done pre o y ys flag r c prints.start wide le at_spot)) in
+    (first_drawn base done below pre o y ys wrapped r c prints.first prints.start attrs prints.columns
+    (wider_spot base done pre o y ys wrapped r c prints.start wide le at_spot)) in
     let joined = subst (AreJoined prints.marks) (sym same)
-    (marks_join prints.marks base done below pre o y ys flag r c (encode_utf8 prints.first) prints.start attrs wide text
-    prints.grows at_spot) in
+    (marks_join prints.marks base done below pre o y ys wrapped r c (encode_utf8 prints.first) prints.start
+    attrs wide text prints.grows at_spot) in
     by_width prints.start prints.columns (omega (arith, le, fits)) joined where
       by_width : (start : Bool) → columns_of prints.first ≡ Some (glyph_columns start) →
           c + glyph_columns start ≤ base.page.width →
-          AreJoined prints.marks (canvas_after_print prints.first (spot base done below pre o y ys flag r c attrs)) →
-          IsPortableOp (Print text) doubts (spot base done below pre o y ys flag r c attrs)
+          AreJoined prints.marks (canvas_after_print prints.first (spot base done below pre o y ys wrapped r c attrs)) →
+          IsPortableOp (Print text) doubts (spot base done below pre o y ys wrapped r c attrs)
       by_width false columns room joined =
-          glyph_portable text prints.first prints.marks 0 doubts (spot base done below pre o y ys flag r c attrs)
+          glyph_portable text prints.first prints.marks 0 doubts (spot base done below pre o y ys wrapped r c attrs)
           prints.is columns may (inl room) joined
       by_width true columns room joined =
-          glyph_portable text prints.first prints.marks 1 doubts (spot base done below pre o y ys flag r c attrs)
+          glyph_portable text prints.first prints.marks 1 doubts (spot base done below pre o y ys wrapped r c attrs)
           prints.is columns may (inl room) joined

@@ -43,29 +43,29 @@ pub record RowMay (May : ℕ → ℕ → Type 0) (width r : ℕ) (x y : RowValue
 
 -- The cells of a row that differs from the terminal's row, and the break after them, are drawn.
 differing_draws : (May : ℕ → ℕ → Type 0) (base : Canvas) (done below : List RowValue)
-    (x y : RowValue) (o : CellValue) (r k height : ℕ) (pen : Pen) (flag : Bool) →
+    (x y : RowValue) (o : CellValue) (r k height : ℕ) (pen : Pen) (wrapped : Bool) →
     Reads base height base.page.width → length done ≡ r → r + suc (length below) ≡ height →
     length x.cells ≡ base.page.width → Paired x.cells → length y.cells ≡ base.page.width →
-    Ready x.cells y.cells [] o k flag → PrintsCells base.page.width x.cells →
+    Ready x.cells y.cells [] o k wrapped → PrintsCells base.page.width x.cells →
     Within pen height base.page.width → RowMay May base.page.width r x y →
-    Broke May (row_written r k pen flag x y.cells) base done below
-    (mid base done below (shown [] o k x.cells y.cells) flag pen) x.cells x.wrapped height
+    Broke May (row_written r k pen wrapped x y.cells) base done below
+    (mid base done below (shown [] o k x.cells y.cells) wrapped pen) x.cells x.wrapped height
 unfolding row_written
-differing_draws May base done below x y o r k height pen flag reads e rows w h v ready prints within may =
-    let cells = cells_written r 0 pen flag k x.cells y.cells in
-    let start = mid base done below (shown [] o k x.cells y.cells) flag pen in
+differing_draws May base done below x y o r k height pen wrapped reads e rows w h v ready prints within may =
+    let cells = cells_written r 0 pen wrapped k x.cells y.cells in
+    let start = mid base done below (shown [] o k x.cells y.cells) wrapped pen in
     let place : Place base done below [] r 0 height (length y.cells) =
     record { reads = reads; above = e; rows = rows; before = refl; columns = omega arith } in
     let one = subst (λ (z : List CellValue). Wrote May cells base done below start z height)
     (drop_whole x.cells y.cells (w ∙ sym v))
-    (cells_draw May base done below x.cells y.cells [] o r 0 k pen flag height place ready prints within may.lets) in
-    let two = broken_draws May base done below x.cells cells.flag x.wrapped r
+    (cells_draw May base done below x.cells y.cells [] o r 0 k pen wrapped height place ready prints within may.lets) in
+    let two = broken_draws May base done below x.cells cells.wrapped x.wrapped r
     height cells.pen reads e rows w h one.sound prints one.within may.last in
-    let last = row_break r cells.pen cells.flag x.wrapped x.cells in
+    let last = row_break r cells.pen cells.wrapped x.wrapped x.cells in
     record {
       draws =
-          in_then May cells.ops last.ops start (mid base done below x.cells cells.flag cells.pen)
-          (mid base done below x.cells last.flag last.pen) one.draws two.draws;
+          in_then May cells.ops last.ops start (mid base done below x.cells cells.wrapped cells.pen)
+          (mid base done below x.cells last.wrapped last.pen) one.draws two.draws;
       within = two.within;
       keeps = two.keeps;
     }
@@ -94,14 +94,14 @@ standing_draws May base done below x o r k height pen ready within =
 
 -- A row is drawn over the terminal's row; if both are equal, the terminal's row must have the same wrapped flag.
 pub row_draws : (May : ℕ → ℕ → Type 0) (base : Canvas) (done below : List RowValue)
-    (x y : RowValue) (o : CellValue) (r k height : ℕ) (pen : Pen) (flag : Bool) →
+    (x y : RowValue) (o : CellValue) (r k height : ℕ) (pen : Pen) (wrapped : Bool) →
     Reads base height base.page.width → length done ≡ r → r + suc (length below) ≡ height →
     length x.cells ≡ base.page.width → Paired x.cells → length y.cells ≡ base.page.width →
-    Ready x.cells y.cells [] o k flag → PrintsCells base.page.width x.cells → Within pen height base.page.width →
-    (x ≡ y → flag ≡ y.wrapped) → (x ≢ y → RowMay May base.page.width r x y) →
-    Broke May (row_written r k pen flag x y.cells) base done below
-    (mid base done below (shown [] o k x.cells y.cells) flag pen) x.cells x.wrapped height
-row_draws May base done below x y o r k height pen flag reads e rows w h v ready prints within same may =
+    Ready x.cells y.cells [] o k wrapped → PrintsCells base.page.width x.cells → Within pen height base.page.width →
+    (x ≡ y → wrapped ≡ y.wrapped) → (x ≢ y → RowMay May base.page.width r x y) →
+    Broke May (row_written r k pen wrapped x y.cells) base done below
+    (mid base done below (shown [] o k x.cells y.cells) wrapped pen) x.cells x.wrapped height
+row_draws May base done below x y o r k height pen wrapped reads e rows w h v ready prints within same may =
     by_rows (row_equal x y)
   where
     Goal : RowValue → Bool → Type 0
@@ -111,14 +111,14 @@ row_draws May base done below x y o r k height pen flag reads e rows w h v ready
         (mid base done below (shown [] o k x.cells z.cells) f pen) x.cells x.wrapped height
 
     by_rows : (x ≡ y) ⊎ (x ≢ y) →
-        Broke May (row_written r k pen flag x y.cells) base done below
-        (mid base done below (shown [] o k x.cells y.cells) flag pen) x.cells x.wrapped height
+        Broke May (row_written r k pen wrapped x y.cells) base done below
+        (mid base done below (shown [] o k x.cells y.cells) wrapped pen) x.cells x.wrapped height
     by_rows (inl t) =
-        let f : x.wrapped ≡ flag = ap (λ (z : RowValue). z.wrapped) t ∙ sym (same t) in
-        subst (λ (z : RowValue). Goal z flag) t
+        let f : x.wrapped ≡ wrapped = ap (λ (z : RowValue). z.wrapped) t ∙ sym (same t) in
+        subst (λ (z : RowValue). Goal z wrapped) t
         (subst (λ (b : Bool). Goal x b) f (λ q. standing_draws May base done below x o r k height pen q within)) ready
     by_rows (inr ne) =
-        differing_draws May base done below x y o r k height pen flag reads e rows w h v ready prints within (may ne)
+        differing_draws May base done below x y o r k height pen wrapped reads e rows w h v ready prints within (may ne)
 
 -- ==== A row's item draws the range of its columns and nothing else.
 
@@ -190,11 +190,11 @@ pub record IsItem (base : Canvas) (done below : List RowValue)
   pub clean : IsClean start stop xs ys
 
 pub range_draws : (base : Canvas) (done below : List RowValue)
-    (r start stop height : ℕ) (flag : Bool) (xs ys : List CellValue) →
-    IsItem base done below r start stop height xs ys → Sound flag ys →
-    Wrote Any (range_written r start stop flag xs ys) base done below
-    (mid base done below ys flag (pen_at r start default_attrs)) (with_range start stop xs ys) height
-range_draws base done below r start stop height flag xs ys item sound =
+    (r start stop height : ℕ) (wrapped : Bool) (xs ys : List CellValue) →
+    IsItem base done below r start stop height xs ys → Sound wrapped ys →
+    Wrote Any (range_written r start stop wrapped xs ys) base done below
+    (mid base done below ys wrapped (pen_at r start default_attrs)) (with_range start stop xs ys) height
+range_draws base done below r start stop height wrapped xs ys item sound =
     let some = item.nonempty in
     let inside = item.inside in
     let self = item.self in
@@ -217,30 +217,30 @@ range_draws base done below r start stop height flag xs ys item sound =
     let pen = pen_at r start default_attrs in
     let place : Place base done below pre r start height (length rest) =
     record { reads = item.reads; above = item.above; rows = rows; before = omega arith; columns = omega arith } in
-    let ready : Ready range rest pre default_blank 0 flag = record {
+    let ready : Ready range rest pre default_blank 0 wrapped = record {
       same = omega arith;
       tail = subst Paired (sym tail) clean.behind;
       le = omega arith;
       behind = subst Paired (sym (append-nil pre)) clean.before;
       new = clean.range;
       old = paired_loose rest clean.there;
-      sound = subst (Sound flag) (sym whole) sound;
+      sound = subst (Sound wrapped) (sym whole) sound;
     } in
     let within : Within pen height base.page.width = record { row = omega arith; col = omega arith } in
-    let drawn = cells_draw Any base done below range rest pre default_blank r start 0 pen flag height place ready
+    let drawn = cells_draw Any base done below range rest pre default_blank r start 0 pen wrapped height place ready
     (prints_take base.page.width (stop - start) (drop start xs) (prints_drop base.page.width start xs item.prints))
     within (lets_any r start range rest) in
-    subst (λ (z : List CellValue). Wrote Any (range_written r start stop flag xs ys) base
-    done below (mid base done below z flag pen) (with_range start stop xs ys) height)
+    subst (λ (z : List CellValue). Wrote Any (range_written r start stop wrapped xs ys) base
+    done below (mid base done below z wrapped pen) (with_range start stop xs ys) height)
     whole
-    (subst (λ (z : List CellValue). Wrote Any (range_written r start stop flag xs ys) base done below
-    (mid base done below (pre ++ cells_after_cut default_blank rest) flag pen) (pre ++ (range ++ z)) height)
+    (subst (λ (z : List CellValue). Wrote Any (range_written r start stop wrapped xs ys) base done below
+    (mid base done below (pre ++ cells_after_cut default_blank rest) wrapped pen) (pre ++ (range ++ z)) height)
     tail
-    (subst (λ (z : List CellValue). Wrote Any (cells_written r start pen flag 0 z (with_whole_start_over range rest))
-    base done below (mid base done below (pre ++ cells_after_cut default_blank rest) flag pen)
+    (subst (λ (z : List CellValue). Wrote Any (cells_written r start pen wrapped 0 z (with_whole_start_over range rest))
+    base done below (mid base done below (pre ++ cells_after_cut default_blank rest) wrapped pen)
     (pre ++ (range ++ drop (length range) rest)) height)
     (sym (begun_paired range clean.range))
-    (subst (λ (z : List CellValue). Wrote Any (cells_written r start pen flag 0 range z)
-    base done below (mid base done below (pre ++ cells_after_cut default_blank rest) flag pen)
+    (subst (λ (z : List CellValue). Wrote Any (cells_written r start pen wrapped 0 range z)
+    base done below (mid base done below (pre ++ cells_after_cut default_blank rest) wrapped pen)
     (pre ++ (range ++ drop (length range) rest)) height)
     (sym (begun_over_paired range rest clean.range)) drawn)))

@@ -97,10 +97,11 @@ cleared page height width pos some is origin e f =
 neither : (b c : Bool) → c ≡ false → (not true || (b && c)) ≡ false
 neither b c h = grind (arith, h)
 
-link_nothing : (r : ℕ) (pen : Pen) (above : List CellValue) (flag : Bool) (xs : List CellValue) →
-    row_link r pen above true flag xs xs ≡ no_link pen flag
+link_nothing : (r : ℕ) (pen : Pen) (above : List CellValue) (wrapped : Bool) (xs : List CellValue) →
+    row_link r pen above true wrapped xs xs ≡ no_link pen wrapped
 unfolding row_link
-link_nothing r pen above flag xs = rw (neither (is_at pen r (length above)) (starts_other xs xs) (starts_none xs)) refl
+link_nothing r pen above wrapped xs = rw (neither (is_at pen r (length above)) (starts_other xs xs)
+    (starts_none xs)) refl
 
 join_nothing : (r : ℕ) (pen : Pen) (above x : RowValue) → link_of r pen above above.wrapped x x ≡ no_link pen x.wrapped
 join_nothing r pen above x =

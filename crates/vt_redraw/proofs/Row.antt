@@ -114,16 +114,17 @@ wide_may May r c text a y y2 xs ys f h p le tail =
 
 -- ==== A row that the terminal displays already needs no output. Equality of rows is decidable.
 
-pub cells_nothing : (r c k : ℕ) (pen : Pen) (flag : Bool) (xs : List CellValue) →
-    cells_written r c pen flag k xs xs ≡ no_ops pen flag
+pub cells_nothing : (r c k : ℕ) (pen : Pen) (wrapped : Bool) (xs : List CellValue) →
+    cells_written r c pen wrapped k xs xs ≡ no_ops pen wrapped
 unfolding cells_written
-cells_nothing r c zero pen flag [] = refl
-cells_nothing r c (suc k) pen flag [] = refl
-cells_nothing r c (suc k) pen flag (x ∷ xs) = cells_nothing r (c + 1) k pen flag xs
-cells_nothing r c zero pen flag (blank a ∷ xs) = rw (same_cell-itself (blank a)) (cells_nothing r (c + 1) 0 pen flag xs)
-cells_nothing r c zero pen flag (glyph text wide a ∷ xs) =
-    rw (same_cell-itself (glyph text wide a)) (cells_nothing r (c + 1) (glyph_columns wide - 1) pen flag xs)
-cells_nothing r c zero pen flag (right_half ∷ xs) = cells_nothing r (c + 1) 0 pen flag xs
+cells_nothing r c zero pen wrapped [] = refl
+cells_nothing r c (suc k) pen wrapped [] = refl
+cells_nothing r c (suc k) pen wrapped (x ∷ xs) = cells_nothing r (c + 1) k pen wrapped xs
+cells_nothing r c zero pen wrapped (blank a ∷ xs) = rw (same_cell-itself (blank a))
+    (cells_nothing r (c + 1) 0 pen wrapped xs)
+cells_nothing r c zero pen wrapped (glyph text wide a ∷ xs) =
+    rw (same_cell-itself (glyph text wide a)) (cells_nothing r (c + 1) (glyph_columns wide - 1) pen wrapped xs)
+cells_nothing r c zero pen wrapped (right_half ∷ xs) = cells_nothing r (c + 1) 0 pen wrapped xs
 
 pub row_nothing : (r k : ℕ) (pen : Pen) (x : RowValue) → row_written r k pen x.wrapped x x.cells ≡ no_ops pen x.wrapped
 unfolding row_written row_break
@@ -209,35 +210,36 @@ pen_within base done below pre r c height left col form a shifted at h =
 
 -- If enough columns are left, there is room for a glyph at the current position.
 pub glyph_spot : (base : Canvas) (done below : List RowValue) (pre : List CellValue)
-    (o y : CellValue) (ys : List CellValue) (flag : Bool) (r c height left : ℕ) (wide : Bool) →
+    (o y : CellValue) (ys : List CellValue) (wrapped : Bool) (r c height left : ℕ) (wide : Bool) →
     Place base done below pre r c height left → glyph_columns wide ≤ left → Paired pre →
-    Sound flag (pre ++ cells_after_cut o (y ∷ ys)) → Spot base done pre o y ys flag r c wide
-glyph_spot base done below pre o y ys flag r c height left wide at h front sound =
+    Sound wrapped (pre ++ cells_after_cut o (y ∷ ys)) → Spot base done pre o y ys wrapped r c wide
+glyph_spot base done below pre o y ys wrapped r c height left wide at h front sound =
     let columns = at.columns in
     record { row = at.above; col = at.before; fits = omega arith; front = front; sound = sound }
 
 -- The operations for the cells of a row draw these cells.
 abbrev RowDraws : (ℕ → ℕ → Type 0) → Canvas → (done below : List RowValue) →
     (xs ys pre : List CellValue) → CellValue → (r c k : ℕ) → Pen → Bool → ℕ → Type 0
-RowDraws May base done below xs ys pre o r c k pen flag height =
-    Wrote May (cells_written r c pen flag k xs ys) base done below
-    (mid base done below (shown pre o k xs ys) flag pen) (pre ++ (xs ++ drop (length xs) ys)) height
+RowDraws May base done below xs ys pre o r c k pen wrapped height =
+    Wrote May (cells_written r c pen wrapped k xs ys) base done below
+    (mid base done below (shown pre o k xs ys) wrapped pen) (pre ++ (xs ++ drop (length xs) ys)) height
 
 -- A first cell that the terminal displays already needs no operations.
 same_draws : (May : ℕ → ℕ → Type 0) (w : Scripted) (base : Canvas) (done below : List RowValue)
-    (x y : CellValue) (pre ys goal : List CellValue) (o : CellValue) (flag : Bool) (pen : Pen) (height : ℕ) →
+    (x y : CellValue) (pre ys goal : List CellValue) (o : CellValue) (wrapped : Bool) (pen : Pen) (height : ℕ) →
     same_cell x y ≡ true → Loose (y ∷ ys) → cells_after_cut o (x ∷ ys) ≡ x ∷ ys →
-    Sound flag (pre ++ cells_after_cut o (y ∷ ys)) →
-    (Loose (x ∷ ys) → Sound flag (pre ++ x ∷ ys) →
-    Wrote May w base done below (mid base done below (pre ++ x ∷ ys) flag pen) goal height) →
-    Wrote May w base done below (mid base done below (pre ++ cells_after_cut o (y ∷ ys)) flag pen) goal height
-same_draws May w base done below x y pre ys goal o flag pen height t loose whole sound h =
+    Sound wrapped (pre ++ cells_after_cut o (y ∷ ys)) →
+    (Loose (x ∷ ys) → Sound wrapped (pre ++ x ∷ ys) →
+    Wrote May w base done below (mid base done below (pre ++ x ∷ ys) wrapped pen) goal height) →
+    Wrote May w base done below (mid base done below (pre ++ cells_after_cut o (y ∷ ys)) wrapped pen) goal height
+same_draws May w base done below x y pre ys goal o wrapped pen height t loose whole sound h =
     let e = cell_of-same x y t in
     let P : CellValue → Type 0 =
-    λ z. Loose (z ∷ ys) → Sound flag (pre ++ cells_after_cut o (z ∷ ys)) →
-    Wrote May w base done below (mid base done below (pre ++ cells_after_cut o (z ∷ ys)) flag pen) goal height in
+    λ z. Loose (z ∷ ys) → Sound wrapped (pre ++ cells_after_cut o (z ∷ ys)) →
+    Wrote May w base done below (mid base done below (pre ++ cells_after_cut o (z ∷ ys)) wrapped pen) goal height in
     let Q : List CellValue → Type 0 =
-    λ z. Sound flag (pre ++ z) → Wrote May w base done below (mid base done below (pre ++ z) flag pen) goal height in
+    λ z. Sound wrapped (pre ++ z) → Wrote May w base done below (mid base done below (pre ++ z) wrapped pen)
+    goal height in
     subst P e (λ l. subst Q (sym whole) (h l)) loose sound
 
 blank_may : (May : ℕ → ℕ → Type 0) (r c : ℕ) (a : Attrs) (xs ys : List CellValue) (k : ℕ) → May r c →
@@ -263,35 +265,38 @@ drop_both (suc n) (x ∷ xs) [] h = sym (drop_none (length (drop n xs)))
 drop_both (suc n) (x ∷ xs) (y ∷ ys) h = drop_both n xs ys (omega arith)
 
 pub cells_draw : (May : ℕ → ℕ → Type 0) (base : Canvas) (done below : List RowValue)
-    (xs ys pre : List CellValue) (o : CellValue) (r c k : ℕ) (pen : Pen) (flag : Bool) (height : ℕ) →
-    Place base done below pre r c height (length ys) → Ready xs ys pre o k flag →
+    (xs ys pre : List CellValue) (o : CellValue) (r c k : ℕ) (pen : Pen) (wrapped : Bool) (height : ℕ) →
+    Place base done below pre r c height (length ys) → Ready xs ys pre o k wrapped →
     PrintsCells base.page.width xs → Within pen height base.page.width →
-    Lets May r c xs ys → RowDraws May base done below xs ys pre o r c k pen flag height
+    Lets May r c xs ys → RowDraws May base done below xs ys pre o r c k pen wrapped height
 unfolding cells_written
-cells_draw May base done below [] ys pre o r c zero pen flag height at h prints within lets =
+cells_draw May base done below [] ys pre o r c zero pen wrapped height at h prints within lets =
     let whole = ap (λ (z : List CellValue). pre ++ z) (opened_paired o ys h.tail) in
     record {
-      draws = record { draws = ap (λ (z : List CellValue). Some (mid base done below z flag pen)) whole; touches = tt };
+      draws = record {
+        draws = ap (λ (z : List CellValue). Some (mid base done below z wrapped pen)) whole;
+        touches = tt;
+      };
       within = within;
-      sound = subst (Sound flag) whole h.sound;
+      sound = subst (Sound wrapped) whole h.sound;
     }
-cells_draw May base done below [] ys pre o r c (suc k) pen flag height at h prints within lets =
+cells_draw May base done below [] ys pre o r c (suc k) pen wrapped height at h prints within lets =
     let le = h.le in absurd (omega arith)
-cells_draw May base done below (x ∷ xs) [] pre o r c k pen flag height at h prints within lets =
+cells_draw May base done below (x ∷ xs) [] pre o r c k pen wrapped height at h prints within lets =
     let same = h.same in absurd (omega arith)
-cells_draw May base done below (x ∷ xs) (y ∷ ys) pre o r c (suc k) pen flag height at h prints within lets =
+cells_draw May base done below (x ∷ xs) (y ∷ ys) pre o r c (suc k) pen wrapped height at h prints within lets =
     let same = h.same in
     let le = h.le in
     let more = lets_next May r c x y xs ys lets in
-    shifted May (cells_written r (c + 1) pen flag k xs ys) base done below pre x
-    (take k xs ++ cells_after_cut o (drop k ys)) (xs ++ drop (length xs) ys) flag pen height
+    shifted May (cells_written r (c + 1) pen wrapped k xs ys) base done below pre x
+    (take k xs ++ cells_after_cut o (drop k ys)) (xs ++ drop (length xs) ys) wrapped pen height
     (cells_draw May base done below xs ys (pre ++ x ∷ []) o r (c + 1) k pen
-    flag height (next_place base done below pre x r c height (length ys) at)
-    (ready_next x xs ys pre o k flag (omega arith) h.tail (omega arith) h.behind h.new h.old h.sound)
+    wrapped height (next_place base done below pre x r c height (length ys) at)
+    (ready_next x xs ys pre o k wrapped (omega arith) h.tail (omega arith) h.behind h.new h.old h.sound)
     prints.1 within more)
-cells_draw May base done below (right_half ∷ xs) (y ∷ ys) pre o r c zero pen flag height at h prints within lets =
+cells_draw May base done below (right_half ∷ xs) (y ∷ ys) pre o r c zero pen wrapped height at h prints within lets =
     absurd h.new
-cells_draw May base done below (blank a ∷ xs) (y ∷ ys) pre o r c zero pen flag height at h prints within lets =
+cells_draw May base done below (blank a ∷ xs) (y ∷ ys) pre o r c zero pen wrapped height at h prints within lets =
     let front : Paired pre = subst Paired (append-nil pre) h.behind in
     let goal = pre ++ blank a ∷ (xs ++ drop (length xs) ys) in
     let same = h.same in
@@ -300,42 +305,44 @@ cells_draw May base done below (blank a ∷ xs) (y ∷ ys) pre o r c zero pen fl
     let le = run_bound a xs in
     let more = lets.1 in
     let next = next_place base done below pre (blank a) r c height (length ys) at in
-    cond_both (same_cell (blank a) y) (cells_written r (c + 1) pen flag 0 xs ys)
+    cond_both (same_cell (blank a) y) (cells_written r (c + 1) pen wrapped 0 xs ys)
     (ops_then (placed_op pen r c a (erase_run pen.form (suc n) (drop n ys)))
-    (cells_written r (c + 1) (pen_in pen.form r c a) (wrapped_after_erasure flag (drop n ys)) n xs ys))
+    (cells_written r (c + 1) (pen_in pen.form r c a) (wrapped_after_erasure wrapped (drop n ys)) n xs ys))
     (λ (w : Scripted). Wrote May w base done below
-    (mid base done below (pre ++ cells_after_cut o (y ∷ ys)) flag pen) goal height)
+    (mid base done below (pre ++ cells_after_cut o (y ∷ ys)) wrapped pen) goal height)
     (λ (t : same_cell (blank a) y ≡ true).
-    same_draws May (cells_written r (c + 1) pen flag 0 xs ys) base done below
-    (blank a) y pre ys goal o flag pen height t h.old refl h.sound (λ old sound.
-    subst (λ (z : List CellValue). Sound flag (pre ++ blank a ∷ z) →
-    Wrote May (cells_written r (c + 1) pen flag 0 xs ys) base done below
-    (mid base done below (pre ++ blank a ∷ z) flag pen) goal height)
+    same_draws May (cells_written r (c + 1) pen wrapped 0 xs ys) base done below
+    (blank a) y pre ys goal o wrapped pen height t h.old refl h.sound (λ old sound.
+    subst (λ (z : List CellValue). Sound wrapped (pre ++ blank a ∷ z) →
+    Wrote May (cells_written r (c + 1) pen wrapped 0 xs ys) base done below
+    (mid base done below (pre ++ blank a ∷ z) wrapped pen) goal height)
     (opened_paired o ys old)
-    (λ still. shifted May (cells_written r (c + 1) pen flag 0 xs ys) base done
-    below pre (blank a) (cells_after_cut o ys) (xs ++ drop (length xs) ys) flag pen height
-    (cells_draw May base done below xs ys (pre ++ blank a ∷ []) o r (c + 1) 0 pen flag height next
-    (ready_next (blank a) xs ys pre o 0 flag (omega arith) h.tail (omega arith)
+    (λ still. shifted May (cells_written r (c + 1) pen wrapped 0 xs ys) base done
+    below pre (blank a) (cells_after_cut o ys) (xs ++ drop (length xs) ys) wrapped pen height
+    (cells_draw May base done below xs ys (pre ++ blank a ∷ []) o r (c + 1) 0 pen wrapped height next
+    (ready_next (blank a) xs ys pre o 0 wrapped (omega arith) h.tail (omega arith)
     (paired_append pre (blank a ∷ []) front tt) h.new (paired_loose ys old) still)
     prints.1 within more))
     sound))
     (λ _.
     let q = pen_in pen.form r c a in
-    let now = wrapped_after_erasure flag (drop n ys) in
+    let now = wrapped_after_erasure wrapped (drop n ys) in
     let taken : blanks a n ≡ take n xs = sym (run_blanks a xs) in
     let left = second_left pen.form a in
     let row = λ (z : List CellValue). pre ++ blank a ∷ (z ++ cells_after_cut left (drop n ys)) in
     let sound : Sound now (row (take n xs)) =
     subst (λ (z : List CellValue). Sound now (row z)) taken
-    (sound_kept flag (row (blanks a n)) now (run_flagged pen.form pre o y ys flag n a h.sound)) in
+    (sound_kept wrapped (row (blanks a n)) now (run_flagged pen.form pre o y ys wrapped n a h.sound)) in
     wrote_after May (placed_op pen r c a (erase_run pen.form (suc n) (drop n ys))) (cells_written r (c + 1) q now n xs ys)
-    base done below (mid base done below (pre ++ cells_after_cut o (y ∷ ys)) flag pen)
+    base done below (mid base done below (pre ++ cells_after_cut o (y ∷ ys)) wrapped pen)
     (mid base done below (row (take n xs)) now q) goal height
-    (doing_draws May base done below (pre ++ cells_after_cut o (y ∷ ys)) flag r c height pen a (erase_run pen.form (suc n) (drop n ys))
+    (doing_draws May base done below (pre ++ cells_after_cut o (y ∷ ys)) wrapped r c height pen a
+    (erase_run pen.form (suc n) (drop n ys))
     (mid base done below (row (take n xs)) now q) at.reads at.above at.rows (omega arith) within
-    (in_to May (erase_run pen.form (suc n) (drop n ys) ∷ []) (mid base done below (pre ++ cells_after_cut o (y ∷ ys)) flag q)
+    (in_to May (erase_run pen.form (suc n) (drop n ys) ∷ [])
+    (mid base done below (pre ++ cells_after_cut o (y ∷ ys)) wrapped q)
     (mid base done below (row (blanks a n)) now q) (mid base done below (row (take n xs)) now q)
-    (run_in May pen.form base done below pre o y ys flag r c n a at.above at.before front here (omega arith)
+    (run_in May pen.form base done below pre o y ys wrapped r c n a at.above at.before front here (omega arith)
     (loose_drop n ys (loose_step y ys h.old)) h.sound (λ k low high. blank_may May r c a xs ys k lets.0 more (omega arith) low high)
     (λ t. torn_may May r (c + suc n) (drop n xs) (drop n ys) (run_paired a xs h.new)
     (lets_drop May n r (c + 1) (c + suc n) xs ys (omega arith) more)
@@ -349,106 +356,107 @@ cells_draw May base done below (blank a ∷ xs) (y ∷ ys) pre o r c zero pen fl
     (run_paired a xs h.new) (loose_drop n ys (loose_step y ys h.old)) sound) prints.1
     (pen_within base done below pre r c height (suc (length ys)) c pen.form a false at (omega arith)) more)))
 cells_draw May base done below (glyph text false a ∷ xs) (y ∷ ys)
-    pre o r c zero pen flag height at h prints within lets =
+    pre o r c zero pen wrapped height at h prints within lets =
     let front : Paired pre = subst Paired (append-nil pre) h.behind in
     let x = glyph text false a in
     let goal = pre ++ x ∷ (xs ++ drop (length xs) ys) in
     let same = h.same in
     let here = at.columns in
-    let now = wrapped_after_glyph flag false (drop 1 ys) in
+    let now = wrapped_after_glyph wrapped false (drop 1 ys) in
     let more = lets.1 in
     let q = pen_past pen.form r (c + 1) a text in
     let next = next_place base done below pre x r c height (length ys) at in
-    cond_both (same_cell x y) (cells_written r (c + 1) pen flag 0 xs ys)
+    cond_both (same_cell x y) (cells_written r (c + 1) pen wrapped 0 xs ys)
     (ops_then (placed_op pen r c a (Print text)) (cells_written r (c + 1) q now 0 xs ys))
     (λ (w : Scripted). Wrote May w base done below
-    (mid base done below (pre ++ cells_after_cut o (y ∷ ys)) flag pen) goal height)
+    (mid base done below (pre ++ cells_after_cut o (y ∷ ys)) wrapped pen) goal height)
     (λ (t : same_cell x y ≡ true).
-    same_draws May (cells_written r (c + 1) pen flag 0 xs ys) base done below
-    x y pre ys goal o flag pen height t h.old refl h.sound (λ old sound.
-    subst (λ (z : List CellValue). Sound flag (pre ++ x ∷ z) →
-    Wrote May (cells_written r (c + 1) pen flag 0 xs ys) base done
-    below (mid base done below (pre ++ x ∷ z) flag pen) goal height)
+    same_draws May (cells_written r (c + 1) pen wrapped 0 xs ys) base done below
+    x y pre ys goal o wrapped pen height t h.old refl h.sound (λ old sound.
+    subst (λ (z : List CellValue). Sound wrapped (pre ++ x ∷ z) →
+    Wrote May (cells_written r (c + 1) pen wrapped 0 xs ys) base done
+    below (mid base done below (pre ++ x ∷ z) wrapped pen) goal height)
     (opened_paired o ys old)
-    (λ still. shifted May (cells_written r (c + 1) pen flag 0 xs ys) base
-    done below pre x (cells_after_cut o ys) (xs ++ drop (length xs) ys) flag pen height
-    (cells_draw May base done below xs ys (pre ++ x ∷ []) o r (c + 1) 0 pen flag height next
-    (ready_next x xs ys pre o 0 flag (omega arith) h.tail (omega arith)
+    (λ still. shifted May (cells_written r (c + 1) pen wrapped 0 xs ys) base
+    done below pre x (cells_after_cut o ys) (xs ++ drop (length xs) ys) wrapped pen height
+    (cells_draw May base done below xs ys (pre ++ x ∷ []) o r (c + 1) 0 pen wrapped height next
+    (ready_next x xs ys pre o 0 wrapped (omega arith) h.tail (omega arith)
     (paired_append pre (x ∷ []) front tt) h.new (paired_loose ys old) still)
     prints.1 within more))
     sound))
     (λ (f : same_cell x y ≡ false).
     let spot =
-    glyph_spot base done below pre o y ys flag r c height (suc (length ys)) false at (omega arith) front h.sound in
+    glyph_spot base done below pre o y ys wrapped r c height (suc (length ys)) false at (omega arith) front h.sound in
     wrote_after May (placed_op pen r c a (Print text)) (cells_written r (c + 1) q now 0 xs ys)
-    base done below (mid base done below (pre ++ cells_after_cut o (y ∷ ys)) flag pen)
+    base done below (mid base done below (pre ++ cells_after_cut o (y ∷ ys)) wrapped pen)
     (mid base done below (with_glyph pre text false a ys) now q) goal height
-    (doing_draws May base done below (pre ++ cells_after_cut o (y ∷ ys)) flag r c height pen a (Print text)
+    (doing_draws May base done below (pre ++ cells_after_cut o (y ∷ ys)) wrapped r c height pen a (Print text)
     (mid base done below (with_glyph pre text false a ys) now q) at.reads at.above at.rows (omega arith) within
-    (print_in May base done below pre o y ys flag r c text false a prints.0
+    (print_in May base done below pre o y ys wrapped r c text false a prints.0
     spot (narrow_may May r c text a y xs ys f lets h.new (omega arith) h.tail)))
     (shifted May (cells_written r (c + 1) q now 0 xs ys) base done below pre
     x (cells_after_cut (orphan false a) ys) (xs ++ drop (length xs) ys) now q height
     (cells_draw May base done below xs ys (pre ++ x ∷ []) (orphan false a) r (c + 1) 0 q now height next
     (ready_next x xs ys pre (orphan false a) 0 now (omega arith) h.tail
     (omega arith) (paired_append pre (x ∷ []) front tt) h.new (loose_step y ys h.old)
-    (sound_kept flag (with_glyph pre text false a ys) now (glyph_flag pre o y ys flag text false a h.sound))) prints.1
+    (sound_kept wrapped (with_glyph pre text false a ys) now
+    (glyph_flag pre o y ys wrapped text false a h.sound))) prints.1
     (pen_within base done below pre r c height (suc (length ys)) (c + 1) pen.form a (shifts pen.form text) at (omega arith)) more)))
 cells_draw May base done below (glyph text true a ∷ []) (y ∷ ys)
-    pre o r c zero pen flag height at h prints within lets = absurd h.new
+    pre o r c zero pen wrapped height at h prints within lets = absurd h.new
 cells_draw May base done below (glyph text true a ∷ blank b ∷ xs)
-    (y ∷ ys) pre o r c zero pen flag height at h prints within lets = absurd h.new
+    (y ∷ ys) pre o r c zero pen wrapped height at h prints within lets = absurd h.new
 cells_draw May base done below (glyph text true a ∷ glyph other wide b ∷ xs)
-    (y ∷ ys) pre o r c zero pen flag height at h prints within lets = absurd h.new
+    (y ∷ ys) pre o r c zero pen wrapped height at h prints within lets = absurd h.new
 cells_draw May base done below (glyph text true a ∷ right_half ∷ xs)
-    (y ∷ []) pre o r c zero pen flag height at h prints within lets = let same = h.same in absurd (omega arith)
+    (y ∷ []) pre o r c zero pen wrapped height at h prints within lets = let same = h.same in absurd (omega arith)
 cells_draw May base done below (glyph text true a ∷ right_half ∷ xs)
-    (y ∷ y2 ∷ ys) pre o r c zero pen flag height at h prints within lets =
+    (y ∷ y2 ∷ ys) pre o r c zero pen wrapped height at h prints within lets =
     let front : Paired pre = subst Paired (append-nil pre) h.behind in
     let x = glyph text true a in
     let xr = right_half ∷ xs in
     let goal = pre ++ x ∷ right_half ∷ (xs ++ drop (length xs) ys) in
     let same = h.same in
     let here = at.columns in
-    let now = wrapped_after_glyph flag true ys in
+    let now = wrapped_after_glyph wrapped true ys in
     let more = lets.1 in
     let q = pen_past pen.form r (c + 2) a text in
     let next = next_place base done below pre x r c height (suc (length ys)) at in
-    let w1 = cells_written r (c + 1) pen flag 1 xr (y2 ∷ ys) in
+    let w1 = cells_written r (c + 1) pen wrapped 1 xr (y2 ∷ ys) in
     let w2 = cells_written r (c + 1) q now 1 xr (y2 ∷ ys) in
     cond_both (same_cell x y) w1 (ops_then (placed_op pen r c a (Print text)) w2)
     (λ (w : Scripted). Wrote May w base done below
-    (mid base done below (pre ++ cells_after_cut o (y ∷ y2 ∷ ys)) flag pen) goal height)
+    (mid base done below (pre ++ cells_after_cut o (y ∷ y2 ∷ ys)) wrapped pen) goal height)
     (λ (t : same_cell x y ≡ true).
-    same_draws May w1 base done below x y pre (y2 ∷ ys) goal o flag pen height t h.old refl h.sound (λ old sound.
+    same_draws May w1 base done below x y pre (y2 ∷ ys) goal o wrapped pen height t h.old refl h.sound (λ old sound.
     let pair = after_wide text a y2 ys old in
-    subst (λ (z : List CellValue). Sound flag (pre ++ x ∷ z) →
-    Wrote May w1 base done below (mid base done below (pre ++ x ∷ z) flag pen) goal height)
+    subst (λ (z : List CellValue). Sound wrapped (pre ++ x ∷ z) →
+    Wrote May w1 base done below (mid base done below (pre ++ x ∷ z) wrapped pen) goal height)
     (ap (λ (z : List CellValue). right_half ∷ z) (opened_paired o ys pair.1)
     ∙ ap (λ (z : CellValue). z ∷ ys) (sym pair.0))
     (λ still. shifted May w1 base done below pre x (right_half ∷ cells_after_cut o ys)
-    (right_half ∷ (xs ++ drop (length xs) ys)) flag pen height
-    (cells_draw May base done below xr (y2 ∷ ys) (pre ++ x ∷ []) o r (c + 1) 1 pen flag height next
-    (ready_next x xr (y2 ∷ ys) pre o 1 flag (omega arith) h.tail (omega arith)
+    (right_half ∷ (xs ++ drop (length xs) ys)) wrapped pen height
+    (cells_draw May base done below xr (y2 ∷ ys) (pre ++ x ∷ []) o r (c + 1) 1 pen wrapped height next
+    (ready_next x xr (y2 ∷ ys) pre o 1 wrapped (omega arith) h.tail (omega arith)
     (paired_append pre (x ∷ right_half ∷ []) front tt) h.new (paired_loose ys pair.1) still)
     prints.1 within more))
     sound))
     (λ (f : same_cell x y ≡ false).
-    let spot = glyph_spot base done below pre o y (y2 ∷ ys) flag r c
+    let spot = glyph_spot base done below pre o y (y2 ∷ ys) wrapped r c
     height (suc (suc (length ys))) true at (omega arith) front h.sound in
     wrote_after May (placed_op pen r c a (Print text)) w2 base done below
-    (mid base done below (pre ++ cells_after_cut o (y ∷ y2 ∷ ys)) flag pen)
+    (mid base done below (pre ++ cells_after_cut o (y ∷ y2 ∷ ys)) wrapped pen)
     (mid base done below (with_glyph pre text true a (y2 ∷ ys)) now q) goal height
-    (doing_draws May base done below (pre ++ cells_after_cut o (y ∷ y2 ∷ ys)) flag r c height pen a (Print text)
+    (doing_draws May base done below (pre ++ cells_after_cut o (y ∷ y2 ∷ ys)) wrapped r c height pen a (Print text)
     (mid base done below (with_glyph pre text true a (y2 ∷ ys)) now q) at.reads at.above at.rows (omega arith) within
-    (print_in May base done below pre o y (y2 ∷ ys) flag r c text true a prints.0
+    (print_in May base done below pre o y (y2 ∷ ys) wrapped r c text true a prints.0
     spot (wide_may May r c text a y y2 xs ys f lets h.new (omega arith) h.tail)))
     (shifted May w2 base done below pre x (right_half ∷ cells_after_cut (orphan true a) ys)
     (right_half ∷ (xs ++ drop (length xs) ys)) now q height
     (cells_draw May base done below xr (y2 ∷ ys) (pre ++ x ∷ []) (orphan true a) r (c + 1) 1 q now height next
     (ready_next x xr (y2 ∷ ys) pre (orphan true a) 1 now (omega arith) h.tail (omega arith)
     (paired_append pre (x ∷ right_half ∷ []) front tt) h.new (loose_step y2 ys (loose_step y (y2 ∷ ys) h.old))
-    (sound_kept flag (with_glyph pre text true a (y2 ∷ ys)) now
-    (glyph_flag pre o y (y2 ∷ ys) flag text true a h.sound)))
+    (sound_kept wrapped (with_glyph pre text true a (y2 ∷ ys)) now
+    (glyph_flag pre o y (y2 ∷ ys) wrapped text true a h.sound)))
     prints.1
     (pen_within base done below pre r c height (suc (suc (length ys))) (c + 2) pen.form a (shifts pen.form text) at (omega arith)) more)))

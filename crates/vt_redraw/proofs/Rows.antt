@@ -58,38 +58,44 @@ drew_after May ops w base a b rows height h k =
     record { draws = in_then May ops w.ops a b (at_pen base rows w.pen) h k.draws; within = k.within }
 
 -- A row of the terminal that is wrapped only if the row of the picture is, which is not, is not wrapped either.
-pub same_wrapped : (on wrapped : Bool) → wrapped ≡ false → (on ≡ true → wrapped ≡ true) → on ≡ wrapped
+pub same_wrapped : (is_wrapped wrapped : Bool) → wrapped ≡ false → (is_wrapped ≡ true → wrapped ≡ true) →
+    is_wrapped ≡ wrapped
 same_wrapped true wrapped h k = sym (k refl)
 same_wrapped false wrapped h k = sym h
 
 pub step_joins : (May : ℕ → ℕ → Type 0) (base : Canvas) (done below : List RowValue)
-    (above x y : RowValue) (on : Bool) (r height : ℕ) (pen : Pen) →
+    (above x y : RowValue) (wrapped_above : Bool) (r height : ℕ) (pen : Pen) →
     Reads base height base.page.width → length done ≡ r → r + suc (suc (length below)) ≡ height →
     Stands base.page.width above → Stands base.page.width x → Stands base.page.width y →
     PrintsCells base.page.width above.cells → PrintsCells base.page.width x.cells →
-    (on ≡ true → above.wrapped ≡ true) → Within pen height base.page.width →
-    (on ≡ false → above.wrapped ≡ true → (k : ℕ) → last_column above.cells ≤ k → k < base.page.width → May r k) →
-    (((on ≡ false) × (above.wrapped ≡ true)) ⊎ (x ≢ y) → RowMay May base.page.width (r + 1) x y) →
-    Joins May pen.form pen.is_shifted (link_of r pen above on x y) base done below
-    (two base done below above.cells on y.cells y.wrapped pen) above.cells above.wrapped x.cells y.cells height
-step_joins May base done below above x y on r height pen reads
+    (wrapped_above ≡ true → above.wrapped ≡ true) → Within pen height base.page.width →
+    (wrapped_above ≡ false → above.wrapped ≡ true → (k : ℕ) → last_column above.cells ≤ k → k < base.page.width
+    → May r k) →
+    (((wrapped_above ≡ false) × (above.wrapped ≡ true)) ⊎ (x ≢ y) → RowMay May base.page.width (r + 1) x y) →
+    Joins May pen.form pen.is_shifted (link_of r pen above wrapped_above x y) base done below
+    (two base done below above.cells wrapped_above y.cells y.wrapped pen) above.cells above.wrapped x.cells
+    y.cells height
+step_joins May base done below above x y wrapped_above r height pen reads
     e rows ha hx hy above_prints prints keeps within last near =
-    let start = two base done below above.cells on y.cells y.wrapped pen in
-    cond_both above.wrapped (row_link r pen above.cells on y.wrapped x.cells y.cells) (no_link pen y.wrapped)
+    let start = two base done below above.cells wrapped_above y.cells y.wrapped pen in
+    cond_both above.wrapped (row_link r pen above.cells wrapped_above y.wrapped x.cells y.cells) (no_link pen y.wrapped)
     (λ (j : Linked). Joins May pen.form pen.is_shifted j base done below start above.cells above.wrapped x.cells y.cells height)
     (λ (t : above.wrapped ≡ true).
-    subst (λ (z : Bool). Joins May pen.form pen.is_shifted (row_link r pen above.cells on y.wrapped x.cells y.cells)
+    subst (λ (z : Bool). Joins May pen.form pen.is_shifted
+    (row_link r pen above.cells wrapped_above y.wrapped x.cells y.cells)
     base done below start above.cells z x.cells y.cells height)
     (sym t)
-    (link_draws May base done below above.cells x.cells y.cells on y.wrapped r height pen reads e rows ha.columns
+    (link_draws May base done below above.cells x.cells y.cells wrapped_above y.wrapped r height pen reads e
+    rows ha.columns
     hx.columns hy.columns ha.paired (ha.sound t) above_prints hx.paired hy.paired hy.sound prints within (λ f. last f t)
     (λ d. let m = near (by_cases t d) in (m.lets, m.begin, m.second))))
     (λ (t : above.wrapped ≡ false).
-    no_join May base done below above.cells x.cells y.cells on above.wrapped y.wrapped pen height
-    (same_wrapped on above.wrapped t keeps) (hx.columns ∙ sym hy.columns) hx.paired hy.paired hy.sound within)
+    no_join May base done below above.cells x.cells y.cells wrapped_above above.wrapped y.wrapped pen height
+    (same_wrapped wrapped_above above.wrapped t keeps) (hx.columns ∙ sym hy.columns) hx.paired hy.paired
+    hy.sound within)
   where
-    by_cases : above.wrapped ≡ true → (on ≡ false) ⊎ (x.cells ≢ y.cells) →
-        ((on ≡ false) × (above.wrapped ≡ true)) ⊎ (x ≢ y)
+    by_cases : above.wrapped ≡ true → (wrapped_above ≡ false) ⊎ (x.cells ≢ y.cells) →
+        ((wrapped_above ≡ false) × (above.wrapped ≡ true)) ⊎ (x ≢ y)
     by_cases t (inl f) = inl (f, t)
     by_cases t (inr ne) = inr (λ q. ne (ap (λ (z : RowValue). z.cells) q))
 
@@ -101,48 +107,50 @@ not_torn (blank a ∷ xs) h = refl
 not_torn (glyph text wide a ∷ xs) h = refl
 not_torn (right_half ∷ xs) h = absurd h
 
-first_same : (r : ℕ) (pen : Pen) (flag : Bool) (xs : List CellValue) →
-    Paired xs → Sound flag xs → (first_written r pen flag xs xs).flag ≡ flag
-first_same r pen flag [] h sound = refl
-first_same r pen flag (right_half ∷ xs) h sound = refl
+first_same : (r : ℕ) (pen : Pen) (wrapped : Bool) (xs : List CellValue) →
+    Paired xs → Sound wrapped xs → (first_written r pen wrapped xs xs).wrapped ≡ wrapped
+first_same r pen wrapped [] h sound = refl
+first_same r pen wrapped (right_half ∷ xs) h sound = refl
 first_same r pen true (blank a ∷ []) h sound = let k = sound refl in absurd (cc)
 first_same r pen false (blank a ∷ []) h sound = refl
-first_same r pen flag (blank a ∷ z ∷ zs) h sound = grind (arith)
-first_same r pen flag (glyph text false a ∷ xs) h sound = no_tear flag (is_torn (drop 1 xs))
-first_same r pen flag (glyph text true a ∷ []) h sound = absurd h
-first_same r pen flag (glyph text true a ∷ blank b ∷ xs) h sound = absurd h
-first_same r pen flag (glyph text true a ∷ glyph other wide b ∷ xs) h sound = absurd h
-first_same r pen flag (glyph text true a ∷ right_half ∷ xs) h sound = let t = not_torn xs h in grind (arith, t)
+first_same r pen wrapped (blank a ∷ z ∷ zs) h sound = grind (arith)
+first_same r pen wrapped (glyph text false a ∷ xs) h sound = no_tear wrapped (is_torn (drop 1 xs))
+first_same r pen wrapped (glyph text true a ∷ []) h sound = absurd h
+first_same r pen wrapped (glyph text true a ∷ blank b ∷ xs) h sound = absurd h
+first_same r pen wrapped (glyph text true a ∷ glyph other wide b ∷ xs) h sound = absurd h
+first_same r pen wrapped (glyph text true a ∷ right_half ∷ xs) h sound = let t = not_torn xs h in grind (arith, t)
 
-linked_same : (r : ℕ) (pen : Pen) (above : List CellValue) (on flag : Bool) (xs : List CellValue) →
-    Paired xs → Sound flag xs → (row_link r pen above on flag xs xs).flag ≡ flag
+linked_same : (r : ℕ) (pen : Pen) (above : List CellValue) (wrapped_above wrapped : Bool) (xs : List CellValue) →
+    Paired xs → Sound wrapped xs → (row_link r pen above wrapped_above wrapped xs xs).wrapped ≡ wrapped
 unfolding row_link
-linked_same r pen above on flag xs h sound =
-    cond_both (not on || (is_at pen r (length above) && starts_other xs xs))
-    (ops_then_link (after_last_glyph r pen above).ops (first_written (r + 1) (after_last_glyph r pen above).pen flag xs xs))
-    (no_link pen flag) (λ (j : Linked). j.flag ≡ flag)
-    (λ _. first_same (r + 1) (after_last_glyph r pen above).pen flag xs h sound) (λ _. refl)
+linked_same r pen above wrapped_above wrapped xs h sound =
+    cond_both (not wrapped_above || (is_at pen r (length above) && starts_other xs xs))
+    (ops_then_link (after_last_glyph r pen above).ops
+    (first_written (r + 1) (after_last_glyph r pen above).pen wrapped xs xs))
+    (no_link pen wrapped) (λ (j : Linked). j.wrapped ≡ wrapped)
+    (λ _. first_same (r + 1) (after_last_glyph r pen above).pen wrapped xs h sound) (λ _. refl)
 
-pub link_same : (r : ℕ) (pen : Pen) (above : RowValue) (on : Bool) (x y : RowValue) → Paired x.cells →
-    Sound y.wrapped x.cells → x ≡ y → (link_of r pen above on x y).flag ≡ y.wrapped
-link_same r pen above on x y h sound e =
-    cond_both above.wrapped (row_link r pen above.cells on y.wrapped x.cells y.cells)
-    (no_link pen y.wrapped) (λ (j : Linked). j.flag ≡ y.wrapped)
-    (λ _. subst (λ (z : List CellValue). (row_link r pen above.cells on y.wrapped x.cells z).flag ≡ y.wrapped)
-    (ap (λ (z : RowValue). z.cells) e) (linked_same r pen above.cells on y.wrapped x.cells h sound))
+pub link_same : (r : ℕ) (pen : Pen) (above : RowValue) (wrapped_above : Bool) (x y : RowValue) → Paired x.cells →
+    Sound y.wrapped x.cells → x ≡ y → (link_of r pen above wrapped_above x y).wrapped ≡ y.wrapped
+link_same r pen above wrapped_above x y h sound e =
+    cond_both above.wrapped (row_link r pen above.cells wrapped_above y.wrapped x.cells y.cells)
+    (no_link pen y.wrapped) (λ (j : Linked). j.wrapped ≡ y.wrapped)
+    (λ _. subst (λ (z : List CellValue). (row_link r pen above.cells wrapped_above y.wrapped x.cells z).wrapped
+    ≡ y.wrapped)
+    (ap (λ (z : RowValue). z.cells) e) (linked_same r pen above.cells wrapped_above y.wrapped x.cells h sound))
     (λ _. refl)
 
-row_same : (r k : ℕ) (pen : Pen) (flag : Bool) (x y : RowValue) → x ≡ y →
-    flag ≡ y.wrapped → (row_written r k pen flag x y.cells).flag ≡ x.wrapped
-row_same r k pen flag x y e f =
-    ap (λ (b : Bool). (row_written r k pen b x y.cells).flag) (f ∙ ap (λ (z : RowValue). z.wrapped) (sym e))
-    ∙ (ap (λ (z : RowValue). (row_written r k pen x.wrapped x z.cells).flag) (sym e)
-    ∙ ap (λ (w : Scripted). w.flag) (row_nothing r k pen x))
+row_same : (r k : ℕ) (pen : Pen) (wrapped : Bool) (x y : RowValue) → x ≡ y →
+    wrapped ≡ y.wrapped → (row_written r k pen wrapped x y.cells).wrapped ≡ x.wrapped
+row_same r k pen wrapped x y e f =
+    ap (λ (b : Bool). (row_written r k pen b x y.cells).wrapped) (f ∙ ap (λ (z : RowValue). z.wrapped) (sym e))
+    ∙ (ap (λ (z : RowValue). (row_written r k pen x.wrapped x z.cells).wrapped) (sym e)
+    ∙ ap (λ (w : Scripted). w.wrapped) (row_nothing r k pen x))
 
 -- If a row must be wrapped and the terminal's row ceased to be wrapped, the two rows differ.
-pub fell : (r k : ℕ) (pen : Pen) (flag : Bool) (x y : RowValue) → (x ≡ y → flag ≡ y.wrapped) →
-    (row_written r k pen flag x y.cells).flag ≡ false → x.wrapped ≡ true → x ≢ y
-fell r k pen flag x y same f t e = let s = row_same r k pen flag x y e (same e) in cc
+pub fell : (r k : ℕ) (pen : Pen) (wrapped : Bool) (x y : RowValue) → (x ≡ y → wrapped ≡ y.wrapped) →
+    (row_written r k pen wrapped x y.cells).wrapped ≡ false → x.wrapped ≡ true → x ≢ y
+fell r k pen wrapped x y same f t e = let s = row_same r k pen wrapped x y e (same e) in cc
 
 -- ---- rows in sequence
 
@@ -158,62 +166,62 @@ BelowMay May width r above other (x ∷ xs) (y ∷ ys) =
     ((above ≢ other) ⊎ (x ≢ y) → RowMay May width (r + 1) x y) × BelowMay May width (r + 1) x y xs ys
 
 below_draw : (May : ℕ → ℕ → Type 0) (base : Canvas) (xs ys done : List RowValue)
-    (above other : RowValue) (on : Bool) (r height : ℕ) (pen : Pen) →
+    (above other : RowValue) (wrapped_above : Bool) (r height : ℕ) (pen : Pen) →
     Reads base height base.page.width → length done ≡ r → r + suc (length xs) ≡ height → length xs ≡ length ys →
     Stands base.page.width above → AllByRecursion (Stands base.page.width) xs →
     AllByRecursion (Stands base.page.width) ys → PrintsRow base.page.width above →
     AllByRecursion (PrintsRow base.page.width) xs →
-    (on ≡ true → above.wrapped ≡ true) → (on ≡ false → above.wrapped ≡ true → above ≢ other) →
+    (wrapped_above ≡ true → above.wrapped ≡ true) → (wrapped_above ≡ false → above.wrapped ≡ true → above ≢ other) →
     ends_unwrapped above xs → Within pen height base.page.width →
     (above ≢ other → RowMay May base.page.width r above other) → BelowMay May base.page.width r above other xs ys →
-    Drew May (rows_below r pen above on xs ys) base
-    (at_pen base (done ++ row_of above.cells on ∷ ys) pen) (done ++ above ∷ xs) height
+    Drew May (rows_below r pen above wrapped_above xs ys) base
+    (at_pen base (done ++ row_of above.cells wrapped_above ∷ ys) pen) (done ++ above ∷ xs) height
 unfolding rows_below
-below_draw May base [] [] done above other on r height pen reads e rows
+below_draw May base [] [] done above other wrapped_above r height pen reads e rows
     same ha hx hy above_prints prints keeps falls last within top may =
     record {
       draws = record {
         draws =
             ap (λ (z : Bool). Some (at_pen base (done ++ row_of above.cells z ∷ []) pen))
-            (same_wrapped on above.wrapped last keeps);
+            (same_wrapped wrapped_above above.wrapped last keeps);
         touches = tt;
       };
       within = within;
     }
-below_draw May base [] (y ∷ ys) done above other on r height pen reads e
+below_draw May base [] (y ∷ ys) done above other wrapped_above r height pen reads e
     rows same ha hx hy above_prints prints keeps falls last within top may = absurd (omega arith)
-below_draw May base (x ∷ xs) [] done above other on r height pen reads e
+below_draw May base (x ∷ xs) [] done above other wrapped_above r height pen reads e
     rows same ha hx hy above_prints prints keeps falls last within top may = absurd (omega arith)
-below_draw May base (x ∷ xs) (y ∷ ys) done above other on r height pen reads
+below_draw May base (x ∷ xs) (y ∷ ys) done above other wrapped_above r height pen reads
     e rows same ha hx hy above_prints prints keeps falls last within top may =
-    let link = link_of r pen above on x y in
-    let row = row_written (r + 1) link.settled link.pen link.flag x y.cells in
+    let link = link_of r pen above wrapped_above x y in
+    let row = row_written (r + 1) link.settled link.pen link.wrapped x y.cells in
     let over = done ++ above ∷ [] in
     let n : length over ≡ r + 1 = let l = length-append done (above ∷ []) in omega arith in
-    let one = step_joins May base done ys above x y on r height pen reads e (omega arith) ha hx.0 hy.0
+    let one = step_joins May base done ys above x y wrapped_above r height pen reads e (omega arith) ha hx.0 hy.0
     above_prints prints.0 keeps within (λ f t. (top (falls f t)).last) (λ d. may.0 (by_cases falls d)) in
-    let flag : x ≡ y → link.flag ≡ y.wrapped =
-    λ q. link_same r pen above on x y hx.0.paired
+    let wrapped : x ≡ y → link.wrapped ≡ y.wrapped =
+    λ q. link_same r pen above wrapped_above x y hx.0.paired
     (subst (λ (b : Bool). Sound b x.cells) (ap (λ (z : RowValue). z.wrapped) q) hx.0.sound) q in
-    let two = row_draws May base over ys x y one.torn (r + 1) link.settled height link.pen link.flag reads n
-    (omega arith) hx.0.columns hx.0.paired hy.0.columns one.ready prints.0 one.within flag (λ ne. may.0 (inr ne)) in
-    let rest = below_draw May base xs ys over x y row.flag (r + 1) height row.pen
+    let two = row_draws May base over ys x y one.torn (r + 1) link.settled height link.pen link.wrapped reads n
+    (omega arith) hx.0.columns hx.0.paired hy.0.columns one.ready prints.0 one.within wrapped (λ ne. may.0 (inr ne)) in
+    let rest = below_draw May base xs ys over x y row.wrapped (r + 1) height row.pen
     reads n (omega arith) (omega arith) hx.0 hx.1 hy.1 prints.0 prints.1 two.keeps
-    (fell (r + 1) link.settled link.pen link.flag x y flag) last two.within (λ ne. may.0 (inr ne)) may.1 in
-    let w = rows_below (r + 1) row.pen x row.flag xs ys in
-    let start = at_pen base (done ++ row_of above.cells on ∷ y ∷ ys) pen in
-    let middle = mid base over ys (shown [] one.torn link.settled x.cells y.cells) link.flag link.pen in
-    let end = mid base over ys x.cells row.flag row.pen in
+    (fell (r + 1) link.settled link.pen link.wrapped x y wrapped) last two.within (λ ne. may.0 (inr ne)) may.1 in
+    let w = rows_below (r + 1) row.pen x row.wrapped xs ys in
+    let start = at_pen base (done ++ row_of above.cells wrapped_above ∷ y ∷ ys) pen in
+    let middle = mid base over ys (shown [] one.torn link.settled x.cells y.cells) link.wrapped link.pen in
+    let end = mid base over ys x.cells row.wrapped row.pen in
     drew_after May (link.ops ++ row.ops) w base start end (done ++ above ∷ x ∷ xs) height
     (in_then May link.ops row.ops start middle end
     (in_to May link.ops start _ middle one.draws
     (two_mid base done ys above.cells above.wrapped
-    (shown [] one.torn link.settled x.cells y.cells) link.flag link.pen))
+    (shown [] one.torn link.settled x.cells y.cells) link.wrapped link.pen))
     two.draws)
     (subst (λ (z : List RowValue). Drew May w base end z height) (append_assoc done (above ∷ []) (x ∷ xs)) rest)
   where
-    by_cases : (on ≡ false → above.wrapped ≡ true → above ≢ other) →
-        ((on ≡ false) × (above.wrapped ≡ true)) ⊎ (x ≢ y) → (above ≢ other) ⊎ (x ≢ y)
+    by_cases : (wrapped_above ≡ false → above.wrapped ≡ true → above ≢ other) →
+        ((wrapped_above ≡ false) × (above.wrapped ≡ true)) ⊎ (x ≢ y) → (above ≢ other) ⊎ (x ≢ y)
     by_cases falls (inl both) = inl (falls both.0 both.1)
     by_cases falls (inr ne) = inr ne
 
@@ -239,17 +247,17 @@ rows_draw May base [] ys height pen reads size same hx hy prints last within may
 rows_draw May base (x ∷ xs) [] height pen reads size same hx hy prints last within may = absurd (omega arith)
 rows_draw May base (x ∷ xs) (y ∷ ys) height pen reads size same hx hy prints last within may =
     let row = row_written 0 0 pen y.wrapped x y.cells in
-    let w = rows_below 0 row.pen x row.flag xs ys in
+    let w = rows_below 0 row.pen x row.wrapped xs ys in
     let ready =
     ready_start x.cells y.cells y.wrapped (hx.0.columns ∙ sym hy.0.columns) hx.0.paired hy.0.paired hy.0.sound in
     let one = row_draws May base [] ys x y default_blank 0 0 height pen y.wrapped reads refl
     (omega arith) hx.0.columns hx.0.paired hy.0.columns ready prints.0 within (λ _. refl) may.0 in
     let start = at_pen base (y ∷ ys) pen in
-    let end = mid base [] ys x.cells row.flag row.pen in
+    let end = mid base [] ys x.cells row.wrapped row.pen in
     drew_after May row.ops w base start end (x ∷ xs) height
     (subst (λ (z : List CellValue). DrawsIn May row.ops (mid base [] ys z y.wrapped pen) end)
     (opened_paired default_blank y.cells hy.0.paired) one.draws)
-    (below_draw May base xs ys [] x y row.flag 0 height row.pen reads refl (omega arith) (omega arith) hx.0
+    (below_draw May base xs ys [] x y row.wrapped 0 height row.pen reads refl (omega arith) (omega arith) hx.0
     hx.1 hy.1 prints.0 prints.1 one.keeps (fell 0 0 pen y.wrapped x y (λ _. refl)) last one.within may.0 may.1)
 
 -- ==== The rows of a difference touch only positions near rows that differ.

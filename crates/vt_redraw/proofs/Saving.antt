@@ -84,30 +84,30 @@ feeds_safe (suc n) s = (tt, feeds_safe n s)
 abbrev SafeWritten : Scripted → Type 0
 SafeWritten w = IsSafe w.ops
 
-cells_safe : (r c : ℕ) (pen : Pen) (flag : Bool) (k : ℕ) (xs ys : List CellValue) →
-    SafeWritten (cells_written r c pen flag k xs ys)
+cells_safe : (r c : ℕ) (pen : Pen) (wrapped : Bool) (k : ℕ) (xs ys : List CellValue) →
+    SafeWritten (cells_written r c pen wrapped k xs ys)
 unfolding cells_written
-cells_safe r c pen flag k [] ys = λ s. tt
-cells_safe r c pen flag k (x ∷ xs) [] = λ s. tt
-cells_safe r c pen flag (suc k) (x ∷ xs) (y ∷ ys) = cells_safe r (c + 1) pen flag k xs ys
-cells_safe r c pen flag zero (right_half ∷ xs) (y ∷ ys) = cells_safe r (c + 1) pen flag zero xs ys
-cells_safe r c pen flag zero (blank a ∷ xs) (y ∷ ys) =
+cells_safe r c pen wrapped k [] ys = λ s. tt
+cells_safe r c pen wrapped k (x ∷ xs) [] = λ s. tt
+cells_safe r c pen wrapped (suc k) (x ∷ xs) (y ∷ ys) = cells_safe r (c + 1) pen wrapped k xs ys
+cells_safe r c pen wrapped zero (right_half ∷ xs) (y ∷ ys) = cells_safe r (c + 1) pen wrapped zero xs ys
+cells_safe r c pen wrapped zero (blank a ∷ xs) (y ∷ ys) =
     let n = blank_run a xs in
     let op = erase_run pen.form (suc n) (drop n ys) in
-    let rest = cells_written r (c + 1) (pen_in pen.form r c a) (wrapped_after_erasure flag (drop n ys)) n xs ys in
-    cond_both (same_cell (blank a) y) (cells_written r (c + 1) pen flag zero xs ys)
+    let rest = cells_written r (c + 1) (pen_in pen.form r c a) (wrapped_after_erasure wrapped (drop n ys)) n xs ys in
+    cond_both (same_cell (blank a) y) (cells_written r (c + 1) pen wrapped zero xs ys)
     (ops_then (placed_op pen r c a op) rest) SafeWritten
-    (λ _. cells_safe r (c + 1) pen flag zero xs ys)
+    (λ _. cells_safe r (c + 1) pen wrapped zero xs ys)
     (λ _. safe_append (placed_op pen r c a op) rest.ops (doing_safe pen r c a op (erase_run_safe pen.form (suc n) (drop n ys)))
-    (cells_safe r (c + 1) (pen_in pen.form r c a) (wrapped_after_erasure flag (drop n ys)) n xs ys))
-cells_safe r c pen flag zero (glyph text wide a ∷ xs) (y ∷ ys) =
+    (cells_safe r (c + 1) (pen_in pen.form r c a) (wrapped_after_erasure wrapped (drop n ys)) n xs ys))
+cells_safe r c pen wrapped zero (glyph text wide a ∷ xs) (y ∷ ys) =
     let k = glyph_columns wide - 1 in
     let next = pen_past pen.form r (c + glyph_columns wide) a text in
-    let now = wrapped_after_glyph flag wide (drop 1 ys) in
+    let now = wrapped_after_glyph wrapped wide (drop 1 ys) in
     let rest = cells_written r (c + 1) next now k xs ys in
-    cond_both (same_cell (glyph text wide a) y) (cells_written r (c + 1) pen flag k xs ys)
+    cond_both (same_cell (glyph text wide a) y) (cells_written r (c + 1) pen wrapped k xs ys)
     (ops_then (placed_op pen r c a (Print text)) rest) SafeWritten
-    (λ _. cells_safe r (c + 1) pen flag k xs ys)
+    (λ _. cells_safe r (c + 1) pen wrapped k xs ys)
     (λ _. safe_append (placed_op pen r c a (Print text)) rest.ops (doing_safe pen r c a (Print text) (λ s. (tt, tt)))
     (cells_safe r (c + 1) next now k xs ys))
 
@@ -116,7 +116,7 @@ after_safe r pen cells =
     let again : Scripted = record {
       ops = placed_op pen r (last_column cells) (attrs_of (last_glyph cells)) (Print (text_of (last_glyph cells)));
       pen = pen_after pen.form r cells;
-      flag = true;
+      wrapped = true;
     } in
     cond_both (is_at pen r (length cells)) (no_ops pen true) again SafeWritten (λ _. λ s. tt)
     (λ _. doing_safe pen r (last_column cells) (attrs_of (last_glyph cells)) (Print (text_of (last_glyph cells)))
@@ -130,64 +130,65 @@ wrap_safe : (r : ℕ) (pen : Pen) → IsSafe (wrap_ops r pen)
 wrap_safe r pen =
     cond_both pen.is_shifted (Print (0x20 ∷ []) ∷ MoveTo r 0 ∷ []) [] IsSafe (λ _. λ s. (tt, (tt, tt))) (λ _. λ s. tt)
 
-first_safe : (r : ℕ) (pen : Pen) (flag : Bool) (xs ys : List CellValue) → IsSafe (first_written r pen flag xs ys).ops
-first_safe r pen flag [] ys = λ s. tt
-first_safe r pen flag (x ∷ xs) [] = λ s. tt
-first_safe r pen flag (right_half ∷ xs) (y ∷ ys) = λ s. tt
-first_safe r pen flag (blank a ∷ xs) (y ∷ ys) =
+first_safe : (r : ℕ) (pen : Pen) (wrapped : Bool) (xs ys : List CellValue) → IsSafe
+    (first_written r pen wrapped xs ys).ops
+first_safe r pen wrapped [] ys = λ s. tt
+first_safe r pen wrapped (x ∷ xs) [] = λ s. tt
+first_safe r pen wrapped (right_half ∷ xs) (y ∷ ys) = λ s. tt
+first_safe r pen wrapped (blank a ∷ xs) (y ∷ ys) =
     safe_append (attr_ops_in pen.form pen.attrs a) (Print (0x20 ∷ []) ∷ back_op pen.form r 0 ∷ EraseChars 1 ∷ [])
     (changing_safe pen.form pen.attrs a) (space_safe pen.form r)
-first_safe r pen flag (glyph text wide a ∷ xs) (y ∷ ys) =
+first_safe r pen wrapped (glyph text wide a ∷ xs) (y ∷ ys) =
     safe_append (attr_ops_in pen.form pen.attrs a) (wrap_ops r pen ++ Print text ∷ [])
     (changing_safe pen.form pen.attrs a)
     (safe_append (wrap_ops r pen) (Print text ∷ []) (wrap_safe r pen) (λ s. (tt, tt)))
 
-linked_safe : (r : ℕ) (pen : Pen) (above : List CellValue) (on flag : Bool) (xs ys : List CellValue) →
-    IsSafe (row_link r pen above on flag xs ys).ops
+linked_safe : (r : ℕ) (pen : Pen) (above : List CellValue) (wrapped_above wrapped : Bool) (xs ys : List CellValue) →
+    IsSafe (row_link r pen above wrapped_above wrapped xs ys).ops
 unfolding row_link
-linked_safe r pen above on flag xs ys =
+linked_safe r pen above wrapped_above wrapped xs ys =
     let w = after_last_glyph r pen above in
-    cond_both (not on || (is_at pen r (length above) && starts_other xs ys))
-    (ops_then_link w.ops (first_written (r + 1) w.pen flag xs ys)) (no_link pen flag) (λ link. IsSafe link.ops)
-    (λ _. safe_append w.ops (first_written (r + 1) w.pen flag xs ys).ops (after_safe r pen above)
-    (first_safe (r + 1) w.pen flag xs ys))
+    cond_both (not wrapped_above || (is_at pen r (length above) && starts_other xs ys))
+    (ops_then_link w.ops (first_written (r + 1) w.pen wrapped xs ys)) (no_link pen wrapped) (λ link. IsSafe link.ops)
+    (λ _. safe_append w.ops (first_written (r + 1) w.pen wrapped xs ys).ops (after_safe r pen above)
+    (first_safe (r + 1) w.pen wrapped xs ys))
     (λ _. λ s. tt)
 
-broken_safe : (r : ℕ) (pen : Pen) (flag wanted : Bool) (cells : List CellValue) →
-    SafeWritten (row_break r pen flag wanted cells)
+broken_safe : (r : ℕ) (pen : Pen) (wrapped wanted : Bool) (cells : List CellValue) →
+    SafeWritten (row_break r pen wrapped wanted cells)
 unfolding row_break
-broken_safe r pen flag wanted cells =
+broken_safe r pen wrapped wanted cells =
     let a = attrs_of (last_glyph cells) in
     let text = text_of (last_glyph cells) in
     let again : List Op = attr_ops_in pen.form pen.attrs a ++ Print text ∷ [] in
-    cond_both (flag && not wanted) (break_ops r pen cells) (no_ops pen flag) SafeWritten
+    cond_both (wrapped && not wanted) (break_ops r pen cells) (no_ops pen wrapped) SafeWritten
     (λ _. safe_append (move_ops pen r (last_column cells)) (EraseChars (erased_count pen.form (length cells - last_column cells)) ∷ again)
     (going_safe pen r (last_column cells))
     (λ s. (tt, safe_append (attr_ops_in pen.form pen.attrs a) (Print text ∷ []) (changing_safe pen.form pen.attrs a) (λ t. (tt, tt)) s)))
     (λ _. λ s. tt)
 
-row_safe : (r k : ℕ) (pen : Pen) (flag : Bool) (x : RowValue) (ys : List CellValue) →
-    SafeWritten (row_written r k pen flag x ys)
+row_safe : (r k : ℕ) (pen : Pen) (wrapped : Bool) (x : RowValue) (ys : List CellValue) →
+    SafeWritten (row_written r k pen wrapped x ys)
 unfolding row_written
-row_safe r k pen flag x ys =
-    let w = cells_written r 0 pen flag k x.cells ys in
-    safe_append w.ops (row_break r w.pen w.flag x.wrapped x.cells).ops (cells_safe r 0 pen flag k x.cells ys)
-    (broken_safe r w.pen w.flag x.wrapped x.cells)
+row_safe r k pen wrapped x ys =
+    let w = cells_written r 0 pen wrapped k x.cells ys in
+    safe_append w.ops (row_break r w.pen w.wrapped x.wrapped x.cells).ops (cells_safe r 0 pen wrapped k x.cells ys)
+    (broken_safe r w.pen w.wrapped x.wrapped x.cells)
 
-below_safe : (r : ℕ) (pen : Pen) (above : RowValue) (on : Bool) (xs ys : List RowValue) →
-    SafeWritten (rows_below r pen above on xs ys)
+below_safe : (r : ℕ) (pen : Pen) (above : RowValue) (wrapped_above : Bool) (xs ys : List RowValue) →
+    SafeWritten (rows_below r pen above wrapped_above xs ys)
 unfolding rows_below
-below_safe r pen above on [] ys = λ s. tt
-below_safe r pen above on (x ∷ xs) [] = λ s. tt
-below_safe r pen above on (x ∷ xs) (y ∷ ys) =
-    let link = link_of r pen above on x y in
-    let row = row_written (r + 1) link.settled link.pen link.flag x y.cells in
+below_safe r pen above wrapped_above [] ys = λ s. tt
+below_safe r pen above wrapped_above (x ∷ xs) [] = λ s. tt
+below_safe r pen above wrapped_above (x ∷ xs) (y ∷ ys) =
+    let link = link_of r pen above wrapped_above x y in
+    let row = row_written (r + 1) link.settled link.pen link.wrapped x y.cells in
     let one : IsSafe link.ops =
-    cond_both above.wrapped (row_link r pen above.cells on y.wrapped x.cells y.cells) (no_link pen y.wrapped)
-    (λ l. IsSafe l.ops) (λ _. linked_safe r pen above.cells on y.wrapped x.cells y.cells) (λ _. λ s. tt) in
-    safe_append (link.ops ++ row.ops) (rows_below (r + 1) row.pen x row.flag xs ys).ops
-    (safe_append link.ops row.ops one (row_safe (r + 1) link.settled link.pen link.flag x y.cells))
-    (below_safe (r + 1) row.pen x row.flag xs ys)
+    cond_both above.wrapped (row_link r pen above.cells wrapped_above y.wrapped x.cells y.cells) (no_link pen y.wrapped)
+    (λ l. IsSafe l.ops) (λ _. linked_safe r pen above.cells wrapped_above y.wrapped x.cells y.cells) (λ _. λ s. tt) in
+    safe_append (link.ops ++ row.ops) (rows_below (r + 1) row.pen x row.wrapped xs ys).ops
+    (safe_append link.ops row.ops one (row_safe (r + 1) link.settled link.pen link.wrapped x y.cells))
+    (below_safe (r + 1) row.pen x row.wrapped xs ys)
 
 rows_safe : (pen : Pen) (xs ys : List RowValue) → SafeWritten (rows_written pen xs ys)
 unfolding rows_written
@@ -195,8 +196,8 @@ rows_safe pen [] ys = λ s. tt
 rows_safe pen (x ∷ xs) [] = λ s. tt
 rows_safe pen (x ∷ xs) (y ∷ ys) =
     let row = row_written 0 0 pen y.wrapped x y.cells in
-    safe_append row.ops (rows_below 0 row.pen x row.flag xs ys).ops (row_safe 0 0 pen y.wrapped x y.cells)
-    (below_safe 0 row.pen x row.flag xs ys)
+    safe_append row.ops (rows_below 0 row.pen x row.wrapped xs ys).ops (row_safe 0 0 pen y.wrapped x y.cells)
+    (below_safe 0 row.pen x row.wrapped xs ys)
 
 -- ---- the cursor
 

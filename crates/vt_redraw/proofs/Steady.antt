@@ -35,7 +35,7 @@ is_narrow right_half = false
 
 -- A canvas of one row with the given cells.
 abbrev pub line : ℕ → Attrs → List CellValue → Bool → ℕ → Canvas
-line width attrs cells flag col = mid (blank_line width attrs) [] [] cells flag (pen_at 0 col attrs)
+line width attrs cells wrapped col = mid (blank_line width attrs) [] [] cells wrapped (pen_at 0 col attrs)
 
 -- ---- past a narrow glyph in column 0
 
@@ -49,9 +49,9 @@ pub record IsPast (width : ℕ) (cells : List CellValue) (col : ℕ) : Type 0 wh
 
 pub record Past (width : ℕ) (attrs : Attrs) (canvas : Canvas) : Type 0 where
   pub cells : List CellValue
-  pub flag : Bool
+  pub wrapped : Bool
   pub col : ℕ
-  pub is : canvas ≡ line width attrs cells flag col
+  pub is : canvas ≡ line width attrs cells wrapped col
   pub past : IsPast width cells col
 
 -- The column k of the glyph that a combining character joins is neither column 0 nor at or after the cursor.
@@ -132,14 +132,14 @@ is_right_half-widened wide (glyph text was attrs) = refl
 is_right_half-widened wide right_half = refl
 
 -- The cursor of a canvas of one row is still past the glyph after its cells and cursor column change.
-past_line : (width : ℕ) (attrs : Attrs) (cells new : List CellValue) (flag : Bool) (col to : ℕ) (page : Page) →
-    page ≡ (line width attrs new (kept flag new) to).page → IsPast width new to →
-    Past width attrs (record (line width attrs cells flag col) { page = page })
-past_line width attrs cells new flag col to page e past = record {
+past_line : (width : ℕ) (attrs : Attrs) (cells new : List CellValue) (wrapped : Bool) (col to : ℕ) (page : Page) →
+    page ≡ (line width attrs new (kept wrapped new) to).page → IsPast width new to →
+    Past width attrs (record (line width attrs cells wrapped col) { page = page })
+past_line width attrs cells new wrapped col to page e past = record {
   cells = new;
-  flag = kept flag new;
+  wrapped = kept wrapped new;
   col = to;
-  is = ap (λ (p : Page). record (line width attrs cells flag col) { page = p }) e;
+  is = ap (λ (p : Page). record (line width attrs cells wrapped col) { page = p }) e;
   past = past;
 }
 
@@ -151,20 +151,21 @@ room_left : (col width : ℕ) → col ≤ width → (col == width) ≡ false →
 room_left col width h e = grind (arith, nat_tests)
 
 -- If the glyph in column k takes on the width of its text, the cursor is still past the narrow glyph in column 0.
-past_followed : (width : ℕ) (attrs : Attrs) (cells : List CellValue) (flag : Bool) (col k m : ℕ) →
+past_followed : (width : ℕ) (attrs : Attrs) (cells : List CellValue) (wrapped : Bool) (col k m : ℕ) →
     is_selector m ≡ true → takes_mark (at cells k) ≡ true → IsPast width cells col → IsBehind col k →
     ((is_selector m && (takes_mark (at cells k) && not (is_wide (at cells k))))
     && (is_wide_text (text_of (cell_with_mark m (at cells k))) && (nat_lt 1 width && (col == width))))
     ≡ false →
-    Past width attrs (record (line width attrs cells flag col) {
-      page = width_followed k attrs (line width attrs (marked_at k m cells) (kept flag (marked_at k m cells)) col).page;
+    Past width attrs (record (line width attrs cells wrapped col) {
+      page = width_followed k attrs (line width attrs (marked_at k m cells)
+          (kept wrapped (marked_at k m cells)) col).page;
     })
 unfolding width_followed made_wide
-past_followed width attrs cells flag col k m selector takes past place never =
+past_followed width attrs cells wrapped col k m selector takes past place never =
     let new = marked_at k m cells in
-    let now = kept flag new in
+    let now = kept wrapped new in
     let page = (line width attrs new now col).page in
-    let Q = λ (p : Page). Past width attrs (record (line width attrs cells flag col) { page = p }) in
+    let Q = λ (p : Page). Past width attrs (record (line width attrs cells wrapped col) { page = p }) in
     let wide = is_wide_text (text_of (at new k)) && nat_lt 1 width in
     let some = place.nonempty in
     let before = place.before in
@@ -173,15 +174,15 @@ past_followed width attrs cells flag col k m selector takes past place never =
     let here : at new k ≡ cell_with_mark m (at cells k) =
     get_or-set_at cells k k (cell_with_mark m (at cells k)) default_blank refl (omega arith) in
     let after = past_set width cells col k (cell_with_mark m (at cells k)) past place (is_right_half-marked m (at cells k)) in
-    let same : Q page = past_line width attrs cells new flag col col page refl after in
+    let same : Q page = past_line width attrs cells new wrapped col col page refl after in
     let narrower = put_cells k (glyph (0x20 ∷ []) false attrs) (cell_made_wide false (at new k) ∷ []) 1 new in
     let wider = put_cells k (blank attrs) (cell_made_wide true (at new k) ∷ right_half ∷ []) 2 new in
     let narrow : Q (made_narrow k attrs page) = record {
       cells = narrower;
-      flag = kept now narrower;
+      wrapped = kept now narrower;
       col = col;
       is =
-          ap (λ (p : Page). record (line width attrs cells flag col) { page = p })
+          ap (λ (p : Page). record (line width attrs cells wrapped col) { page = p })
           (edited_at (blank_line width attrs) [] [] new now
           (pen_at 0 col attrs) (narrowed_at k attrs) narrower refl refl);
       past =
@@ -202,10 +203,10 @@ past_followed width attrs cells flag col k m selector takes past place never =
     (is_wide_text (text_of (cell_with_mark m (at cells k)))) (nat_lt 1 width) (col == width) selector takes was text never) in
     record {
       cells = wider;
-      flag = kept now wider;
+      wrapped = kept now wider;
       col = col + 1;
       is =
-          ap (λ (p : Page). record (line width attrs cells flag col) { page = record p { column = col + 1 } })
+          ap (λ (p : Page). record (line width attrs cells wrapped col) { page = record p { column = col + 1 } })
           (edited_at (blank_line width attrs) [] [] new now (pen_at 0 col attrs) (widened_at k attrs) wider refl refl);
       past =
           past_put width new col k 2 (col + 1) (blank attrs) (cell_made_wide true (at new k)) (right_half ∷ []) after
@@ -214,21 +215,24 @@ past_followed width attrs cells flag col k m selector takes past place never =
     (λ _. same))
 
 -- A combining character that scrolls no row off leaves the cursor past the narrow glyph in column 0.
-mark_past : (width : ℕ) (attrs : Attrs) (cells : List CellValue) (flag : Bool) (col m : ℕ) →
-    IsPast width cells col → carries m (line width attrs cells flag col).page ≡ false →
+mark_past : (width : ℕ) (attrs : Attrs) (cells : List CellValue) (wrapped : Bool) (col m : ℕ) →
+    IsPast width cells col → carries m (line width attrs cells wrapped col).page ≡ false →
     Past width attrs
-    (record (line width attrs cells flag col) { page = mark_printed m attrs (line width attrs cells flag col).page })
+    (record (line width attrs cells wrapped col) {
+      page = mark_printed m attrs
+          (line width attrs cells wrapped col).page;
+    })
 unfolding mark_printed carries
-mark_past width attrs cells flag col m past never =
-    let page = (line width attrs cells flag col).page in
+mark_past width attrs cells wrapped col m past never =
+    let page = (line width attrs cells wrapped col).page in
     let k = mark_column page in
     let new = marked_at k m cells in
-    let Q = λ (p : Page). Past width attrs (record (line width attrs cells flag col) { page = p }) in
+    let Q = λ (p : Page). Past width attrs (record (line width attrs cells wrapped col) { page = p }) in
     let place = behind_first width cells col past in
     let before = place.before in
     let inside = past.inside in
-    let put : mark_put k m page ≡ (line width attrs new (kept flag new) col).page =
-    edited_at (blank_line width attrs) [] [] cells flag (pen_at 0 col attrs) (marked_at k m) new refl refl in
+    let put : mark_put k m page ≡ (line width attrs new (kept wrapped new) col).page =
+    edited_at (blank_line width attrs) [] [] cells wrapped (pen_at 0 col attrs) (marked_at k m) new refl refl in
     let put_on : Page = if is_selector m then width_followed k attrs (mark_put k m page) else mark_put k m page in
     cond_both (carries m page) (page_after_wrap m attrs page) (if takes_mark (at cells k) then put_on else page) Q
     (λ (y : carries m page ≡ true). absurd (false≢true (sym never ∙ y)))
@@ -236,10 +240,10 @@ mark_past width attrs cells flag col m past never =
     (λ (t : takes_mark (at cells k) ≡ true). cond_both (is_selector m)
     (width_followed k attrs (mark_put k m page)) (mark_put k m page) Q
     (λ (s : is_selector m ≡ true). subst (λ (p : Page). Q (width_followed k attrs p))
-    (sym put) (past_followed width attrs cells flag col k m s t past place never))
-    (λ _. past_line width attrs cells new flag col col (mark_put k m page) put
+    (sym put) (past_followed width attrs cells wrapped col k m s t past place never))
+    (λ _. past_line width attrs cells new wrapped col col (mark_put k m page) put
     (past_set width cells col k (cell_with_mark m (at cells k)) past place (is_right_half-marked m (at cells k)))))
-    (λ _. record { cells = cells; flag = flag; col = col; is = refl; past = past }))
+    (λ _. record { cells = cells; wrapped = wrapped; col = col; is = refl; past = past }))
 
 by_push : (width : ℕ) (attrs : Attrs) (page : Page) (canvas end : Canvas) (b : Bool) →
     (b ≡ false → Past width attrs (record canvas { page = page })) →
@@ -255,10 +259,11 @@ by_push width attrs page canvas end false f h =
     canvas_or_same : (a b : Canvas) → Some a ≡ Some b → a ≡ b
     canvas_or_same a b e = ap (canvas_or a) e
 
-line_past : (width : ℕ) (attrs : Attrs) (cells : List CellValue) (flag : Bool) (col m : ℕ) (end : Canvas) → IsMark m →
-    IsPast width cells col → drawn_char m (line width attrs cells flag col) ≡ Some end → Past width attrs end
-line_past width attrs cells flag col m end is_mark past h =
-    let canvas = line width attrs cells flag col in
+line_past : (width : ℕ) (attrs : Attrs) (cells : List CellValue) (wrapped : Bool) (col m : ℕ) (end : Canvas)
+    → IsMark m →
+    IsPast width cells col → drawn_char m (line width attrs cells wrapped col) ≡ Some end → Past width attrs end
+line_past width attrs cells wrapped col m end is_mark past h =
+    let canvas = line width attrs cells wrapped col in
     let page = canvas.page in
     let far = past.far in
     let some : (col == 0) ≡ false = ne_eqb col 0 (λ same. omega arith) in
@@ -268,13 +273,13 @@ line_past width attrs cells flag col m end is_mark past h =
     ≡ (if carries m page && true then None else Some (record canvas { page = mark_printed m attrs page })) =
     rw some refl in
     by_push width attrs (mark_printed m attrs page) canvas end
-    (carries m page) (mark_past width attrs cells flag col m past)
+    (carries m page) (mark_past width attrs cells wrapped col m past)
     (sym zero_columns ∙ (sym (ap by is_mark.1) ∙ h))
 
 past_mark : (width : ℕ) (attrs : Attrs) (m : ℕ) (canvas end : Canvas) → IsMark m →
     Past width attrs canvas → drawn_char m canvas ≡ Some end → Past width attrs end
 past_mark width attrs m canvas end is_mark p h =
-    line_past width attrs p.cells p.flag p.col m end is_mark p.past (sym (ap (drawn_char m) p.is) ∙ h)
+    line_past width attrs p.cells p.wrapped p.col m end is_mark p.past (sym (ap (drawn_char m) p.is) ∙ h)
 
 pub past_marks : (ms : List ℕ) (width : ℕ) (attrs : Attrs) (canvas end : Canvas) → AllByRecursion IsMark ms →
     Past width attrs canvas → drawn_text ms canvas ≡ Some end → Past width attrs end
@@ -328,7 +333,7 @@ narrowed n text attrs h =
     glyph text false attrs ∷ (glyph (0x20 ∷ []) false attrs ∷ cells_after_cut (blank attrs) (drop 1 (blanks default_attrs n))) in
     record {
       cells = new;
-      flag = kept false new;
+      wrapped = kept false new;
       col = 2;
       is = ap (λ (p : Page). record canvas { page = p })
           (edited_at (blank_line (suc n) attrs) [] [] row false (pen_at 0 2 attrs) (narrowed_at 0 attrs) new

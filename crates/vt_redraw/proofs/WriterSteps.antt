@@ -38,29 +38,31 @@ joined_bytes t0 t1 t2 xs ys e f =
     ∙ (append_assoc t0 (bytes_of_all xs) (bytes_of_all ys)
     ∙ ap (λ (z : List ℕ). t0 ++ z) (sym (flat_map-append bytes_of xs ys))))
 
-pub from_settled : (r k : ℕ) (pen : Pen) (flag : Bool) (xs ys : List CellValue) →
-    cells_from r k pen flag xs ys ≡ cells_written r 0 pen flag k xs ys
-from_settled r k pen flag xs ys =
-    sym (settled_passed r 0 pen flag k xs ys
-    ∙ ap (λ (n : ℕ). cells_written r n pen flag 0 (drop k xs) (drop k ys)) (omega arith))
+pub from_settled : (r k : ℕ) (pen : Pen) (wrapped : Bool) (xs ys : List CellValue) →
+    cells_from r k pen wrapped xs ys ≡ cells_written r 0 pen wrapped k xs ys
+from_settled r k pen wrapped xs ys =
+    sym (settled_passed r 0 pen wrapped k xs ys
+    ∙ ap (λ (n : ℕ). cells_written r n pen wrapped 0 (drop k xs) (drop k ys)) (omega arith))
 
 -- The output of a row is that of its cells, followed by that of the break.
-pub row_writes : (r k : ℕ) (pen p1 p2 : Pen) (flag f1 on : Bool)
+pub row_writes : (r k : ℕ) (pen p1 p2 : Pen) (wrapped f1 is_wrapped : Bool)
     (x : RowValue) (ys : List CellValue) (t0 t1 t2 : List ℕ) →
-    t1 ≡ t0 ++ bytes_of_all (cells_from r k pen flag x.cells ys).ops →
-    p1 ≡ (cells_from r k pen flag x.cells ys).pen → f1 ≡ (cells_from r k pen flag x.cells ys).flag →
-    Writes t1 t2 p2 on (row_break r p1 f1 x.wrapped x.cells) → Writes t0 t2 p2 on (row_written r k pen flag x ys)
+    t1 ≡ t0 ++ bytes_of_all (cells_from r k pen wrapped x.cells ys).ops →
+    p1 ≡ (cells_from r k pen wrapped x.cells ys).pen → f1 ≡ (cells_from r k pen wrapped x.cells ys).wrapped →
+    Writes t1 t2 p2 is_wrapped (row_break r p1 f1 x.wrapped x.cells) → Writes t0 t2 p2 is_wrapped
+    (row_written r k pen wrapped x ys)
 unfolding row_written
-row_writes r k pen p1 p2 flag f1 on x ys t0 t1 t2 e f g h =
-    let same = from_settled r k pen flag x.cells ys in
-    let cells = cells_written r 0 pen flag k x.cells ys in
+row_writes r k pen p1 p2 wrapped f1 is_wrapped x ys t0 t1 t2 e f g h =
+    let same = from_settled r k pen wrapped x.cells ys in
+    let cells = cells_written r 0 pen wrapped k x.cells ys in
     let text : t1 ≡ t0 ++ bytes_of_all cells.ops = e ∙ ap (λ (w : Scripted). t0 ++ bytes_of_all w.ops) same in
-    let end : row_break r p1 f1 x.wrapped x.cells ≡ row_break r cells.pen cells.flag x.wrapped x.cells =
+    let end : row_break r p1 f1 x.wrapped x.cells ≡ row_break r cells.pen cells.wrapped x.wrapped x.cells =
     ap (λ (p : Pen). row_break r p f1 x.wrapped x.cells) (f ∙ ap (λ (w : Scripted). w.pen) same)
-    ∙ ap (λ (b : Bool). row_break r cells.pen b x.wrapped x.cells) (g ∙ ap (λ (w : Scripted). w.flag) same) in
-    let last = subst (Writes t1 t2 p2 on) end h in
+    ∙ ap (λ (b : Bool). row_break r cells.pen b x.wrapped x.cells) (g ∙ ap (λ (w : Scripted). w.wrapped) same) in
+    let last = subst (Writes t1 t2 p2 is_wrapped) end h in
     record {
-      bytes = joined_bytes t0 t1 t2 cells.ops (row_break r cells.pen cells.flag x.wrapped x.cells).ops text last.bytes;
+      bytes = joined_bytes t0 t1 t2 cells.ops (row_break r cells.pen cells.wrapped x.wrapped x.cells).ops text
+          last.bytes;
       stands = last.stands;
       is_wrapped = last.is_wrapped;
     }
@@ -74,46 +76,46 @@ rows_from_here width r rows h = drop_more rows r (blank_row default_attrs width)
 first_row : (width : ℕ) (rows : List RowValue) → 0 < length rows → rows ≡ row_or width rows 0 ∷ drop 1 rows
 first_row width rows h = rows_from_here width 0 rows h
 
-first_leads : (width : ℕ) (pen p1 : Pen) (on : Bool) (xs ys : List RowValue) (t0 t1 : List ℕ) →
+first_leads : (width : ℕ) (pen p1 : Pen) (wrapped_above : Bool) (xs ys : List RowValue) (t0 t1 : List ℕ) →
     0 < length xs → length xs ≡ length ys →
-    Writes t0 t1 p1 on (row_written 0 0 pen (row_or width ys 0).wrapped (row_or width xs 0) (row_or width ys 0).cells) →
-    Leads t1 (rows_under 0 width p1 on xs ys) t0 (rows_written pen xs ys)
+    Writes t0 t1 p1 wrapped_above (row_written 0 0 pen (row_or width ys 0).wrapped (row_or width xs 0)
+    (row_or width ys 0).cells) → Leads t1 (rows_under 0 width p1 wrapped_above xs ys) t0 (rows_written pen xs ys)
 unfolding rows_written
-first_leads width pen p1 on xs ys t0 t1 some same h =
+first_leads width pen p1 wrapped_above xs ys t0 t1 some same h =
     let x = row_or width xs 0 in
     let y = row_or width ys 0 in
     let row = row_written 0 0 pen y.wrapped x y.cells in
-    leads_after t0 t1 row.ops (rows_under 0 width p1 on xs ys) (rows_written pen xs ys) h.bytes
+    leads_after t0 t1 row.ops (rows_under 0 width p1 wrapped_above xs ys) (rows_written pen xs ys) h.bytes
     (ap (λ (zs : List RowValue). rows_written pen zs ys) (first_row width xs some)
     ∙ (ap (λ (zs : List RowValue). rows_written pen (x ∷ drop 1 xs) zs) (first_row width ys (omega arith))
-    ∙ (ap (λ (p : Pen). ops_then row.ops (rows_below 0 p x row.flag (drop 1 xs) (drop 1 ys))) (sym h.stands)
+    ∙ (ap (λ (p : Pen). ops_then row.ops (rows_below 0 p x row.wrapped (drop 1 xs) (drop 1 ys))) (sym h.stands)
     ∙ ap (λ (b : Bool). ops_then row.ops (rows_below 0 p1 x b (drop 1 xs) (drop 1 ys))) (sym h.is_wrapped))))
 
-pub top_leads : (width : ℕ) (pen p1 : Pen) (on : Bool) (xs ys : List RowValue) (x y : RowValue) (t0 t1 : List ℕ) →
-    0 < length xs → length xs ≡ length ys → x ≡ row_or width xs 0 → y ≡ row_or width ys 0 →
-    Writes t0 t1 p1 on (row_written 0 0 pen y.wrapped x y.cells) →
-    Leads t1 (rows_under 0 width p1 on xs ys) t0 (rows_written pen xs ys)
-top_leads width pen p1 on xs ys x y t0 t1 some same ex ey h =
+pub top_leads : (width : ℕ) (pen p1 : Pen) (wrapped_above : Bool) (xs ys : List RowValue) (x y : RowValue)
+    (t0 t1 : List ℕ) → 0 < length xs → length xs ≡ length ys → x ≡ row_or width xs 0 → y ≡ row_or width ys 0 →
+    Writes t0 t1 p1 wrapped_above (row_written 0 0 pen y.wrapped x y.cells) →
+    Leads t1 (rows_under 0 width p1 wrapped_above xs ys) t0 (rows_written pen xs ys)
+top_leads width pen p1 wrapped_above xs ys x y t0 t1 some same ex ey h =
     let top = row_or width xs 0 in
-    first_leads width pen p1 on xs ys t0 t1 some same
-    (subst (λ (z : RowValue). Writes t0 t1 p1 on (row_written 0 0 pen z.wrapped top z.cells)) ey
-    (subst (λ (z : RowValue). Writes t0 t1 p1 on (row_written 0 0 pen y.wrapped z y.cells)) ex h))
+    first_leads width pen p1 wrapped_above xs ys t0 t1 some same
+    (subst (λ (z : RowValue). Writes t0 t1 p1 wrapped_above (row_written 0 0 pen z.wrapped top z.cells)) ey
+    (subst (λ (z : RowValue). Writes t0 t1 p1 wrapped_above (row_written 0 0 pen y.wrapped z y.cells)) ex h))
 
-pub below_leads : (width r : ℕ) (pen p1 p2 : Pen) (on next : Bool) (link : Link)
+pub below_leads : (width r : ℕ) (pen p1 p2 : Pen) (wrapped_above next : Bool) (link : Link)
     (xs ys : List RowValue) (above x y : RowValue) (t0 t1 t2 : List ℕ) →
     r + 1 < length xs → length xs ≡ length ys →
     above ≡ row_or width xs r → x ≡ row_or width xs (r + 1) → y ≡ row_or width ys (r + 1) →
-    Links t0 t1 p1 link (link_of r pen above on x y) →
-    Writes t1 t2 p2 next (row_written (r + 1) link.settled p1 link.flag x y.cells) →
-    Leads t2 (rows_under (r + 1) width p2 next xs ys) t0 (rows_under r width pen on xs ys)
+    Links t0 t1 p1 link (link_of r pen above wrapped_above x y) →
+    Writes t1 t2 p2 next (row_written (r + 1) link.settled p1 link.wrapped x y.cells) →
+    Leads t2 (rows_under (r + 1) width p2 next xs ys) t0 (rows_under r width pen wrapped_above xs ys)
 unfolding rows_below
-below_leads width r pen p1 p2 on next link xs ys above x y t0 t1 t2 inside same ea ex ey h l =
-    let whole = link_of r pen above on x y in
-    let row = row_written (r + 1) whole.settled whole.pen whole.flag x y.cells in
+below_leads width r pen p1 p2 wrapped_above next link xs ys above x y t0 t1 t2 inside same ea ex ey h l =
+    let whole = link_of r pen above wrapped_above x y in
+    let row = row_written (r + 1) whole.settled whole.pen whole.wrapped x y.cells in
     let rest = λ (p : Pen) (b : Bool). rows_below (r + 1) p x b (drop (r + 2) xs) (drop (r + 2) ys) in
-    let reads : row_written (r + 1) link.settled p1 link.flag x y.cells ≡ row =
-    ap (λ (n : ℕ). row_written (r + 1) n p1 link.flag x y.cells) h.done
-    ∙ (ap (λ (p : Pen). row_written (r + 1) whole.settled p link.flag x y.cells) h.stands
+    let reads : row_written (r + 1) link.settled p1 link.wrapped x y.cells ≡ row =
+    ap (λ (n : ℕ). row_written (r + 1) n p1 link.wrapped x y.cells) h.done
+    ∙ (ap (λ (p : Pen). row_written (r + 1) whole.settled p link.wrapped x y.cells) h.stands
     ∙ ap (λ (b : Bool). row_written (r + 1) whole.settled whole.pen b x y.cells) h.is_wrapped) in
     let wrote = subst (Writes t1 t2 p2 next) reads l in
     let two : r + 1 + 1 ≡ r + 2 = omega arith in
@@ -126,20 +128,22 @@ below_leads width r pen p1 p2 on next link xs ys above x y t0 t1 t2 inside same 
     let after_it : rows_under (r + 1) width p2 next xs ys ≡ rest p2 next =
     ap (λ (z : RowValue). rows_below (r + 1) p2 z next (drop (r + 1 + 1) xs) (drop (r + 1 + 1) ys)) (sym ex)
     ∙ ap (λ (n : ℕ). rows_below (r + 1) p2 x next (drop n xs) (drop n ys)) two in
-    leads_after t0 t2 (whole.ops ++ row.ops) (rows_under (r + 1) width p2 next xs ys) (rows_under r width pen on xs ys)
+    leads_after t0 t2 (whole.ops ++ row.ops) (rows_under (r + 1) width p2 next xs ys)
+    (rows_under r width pen wrapped_above xs ys)
     (joined_bytes t0 t1 t2 whole.ops row.ops h.bytes wrote.bytes)
-    (ap (λ (z : RowValue). rows_below r pen z on (drop (r + 1) xs) (drop (r + 1) ys)) (sym ea)
-    ∙ (ap (λ (zs : List RowValue). rows_below r pen above on zs (drop (r + 1) ys)) here
-    ∙ (ap (λ (zs : List RowValue). rows_below r pen above on (x ∷ drop (r + 2) xs) zs) there
-    ∙ (ap (λ (p : Pen). ops_then (whole.ops ++ row.ops) (rest p row.flag)) (sym wrote.stands)
+    (ap (λ (z : RowValue). rows_below r pen z wrapped_above (drop (r + 1) xs) (drop (r + 1) ys)) (sym ea)
+    ∙ (ap (λ (zs : List RowValue). rows_below r pen above wrapped_above zs (drop (r + 1) ys)) here
+    ∙ (ap (λ (zs : List RowValue). rows_below r pen above wrapped_above (x ∷ drop (r + 2) xs) zs) there
+    ∙ (ap (λ (p : Pen). ops_then (whole.ops ++ row.ops) (rest p row.wrapped)) (sym wrote.stands)
     ∙ (ap (λ (b : Bool). ops_then (whole.ops ++ row.ops) (rest p2 b)) (sym wrote.is_wrapped)
     ∙ ap (ops_then (whole.ops ++ row.ops)) (sym after_it))))))
 
-pub rows_end : (width r : ℕ) (pen : Pen) (on : Bool) (xs ys : List RowValue) →
-    length xs ≤ r + 1 → rows_under r width pen on xs ys ≡ no_ops pen on
+pub rows_end : (width r : ℕ) (pen : Pen) (wrapped_above : Bool) (xs ys : List RowValue) →
+    length xs ≤ r + 1 → rows_under r width pen wrapped_above xs ys ≡ no_ops pen wrapped_above
 unfolding rows_below
-rows_end width r pen on xs ys h =
-    ap (λ (zs : List RowValue). rows_below r pen (row_or width xs r) on zs (drop (r + 1) ys)) (drop_all (r + 1) xs h)
+rows_end width r pen wrapped_above xs ys h =
+    ap (λ (zs : List RowValue). rows_below r pen (row_or width xs r) wrapped_above zs (drop (r + 1) ys))
+    (drop_all (r + 1) xs h)
 
 -- ==== Steps of the writer of a single row.
 
@@ -172,40 +176,42 @@ range_is start stop xs h =
     let sum : start + (stop - start) ≡ stop = omega arith in
     ap (λ (n : ℕ). drop start (take n xs)) (sym sum) ∙ drop-take start (stop - start) xs
 
-cut_written : (r start stop : ℕ) (pen : Pen) (flag : Bool) (xs ys : List CellValue) → start ≤ stop →
-    cells_written r start pen flag 0 (with_whole_start (drop start (take stop xs)))
+cut_written : (r start stop : ℕ) (pen : Pen) (wrapped : Bool) (xs ys : List CellValue) → start ≤ stop →
+    cells_written r start pen wrapped 0 (with_whole_start (drop start (take stop xs)))
     (with_whole_start_over (drop start (take stop xs)) (drop start ys))
-    ≡ cells_written r start pen flag 0 (with_whole_start (in_range start stop xs))
+    ≡ cells_written r start pen wrapped 0 (with_whole_start (in_range start stop xs))
     (with_whole_start_over (in_range start stop xs) (drop start ys))
-cut_written r start stop pen flag xs ys h =
-    ap (λ (zs : List CellValue). cells_written r start pen flag 0 (with_whole_start zs) (with_whole_start_over zs (drop start ys)))
+cut_written r start stop pen wrapped xs ys h =
+    ap (λ (zs : List CellValue). cells_written r start pen wrapped 0 (with_whole_start zs)
+    (with_whole_start_over zs (drop start ys)))
     (range_is start stop xs h)
 
 -- The output that the code writes for a range, whose row it first truncates, is that of the script.
-pub range_wrote : (r start stop : ℕ) (pen : Pen) (flag : Bool) (cut xs ys : List CellValue) →
+pub range_wrote : (r start stop : ℕ) (pen : Pen) (wrapped : Bool) (cut xs ys : List CellValue) →
     start ≤ stop → cut ≡ take stop xs → pen ≡ pen_at r start default_attrs →
-    cells_written r start pen flag 0 (with_whole_start (drop start cut)) (with_whole_start_over (drop start cut) (drop start ys))
-    ≡ range_written r start stop flag xs ys
-range_wrote r start stop pen flag cut xs ys h e p =
-    ap (λ (zs : List CellValue). cells_written r start pen flag 0
+    cells_written r start pen wrapped 0 (with_whole_start (drop start cut))
+    (with_whole_start_over (drop start cut) (drop start ys))
+    ≡ range_written r start stop wrapped xs ys
+range_wrote r start stop pen wrapped cut xs ys h e p =
+    ap (λ (zs : List CellValue). cells_written r start pen wrapped 0
     (with_whole_start (drop start zs)) (with_whole_start_over (drop start zs) (drop start ys)))
     e
-    ∙ (cut_written r start stop pen flag xs ys h
-    ∙ ap (λ (q : Pen). cells_written r start q flag 0 (with_whole_start (in_range start stop xs))
+    ∙ (cut_written r start stop pen wrapped xs ys h
+    ∙ ap (λ (q : Pen). cells_written r start q wrapped 0 (with_whole_start (in_range start stop xs))
     (with_whole_start_over (in_range start stop xs) (drop start ys)))
     p)
 
 -- ---- an item of a difference
 
 marked_ops : (r : ℕ) (w b : Scripted) (wanted : Bool) (cells : List CellValue) →
-    (marked_on r (ops_then w.ops b) wanted cells).ops ≡ w.ops ++ (b.ops ++ mark_of r b.pen b.flag wanted cells)
-marked_ops r w b wanted cells = by_case (wanted && not b.flag) where
+    (marked_on r (ops_then w.ops b) wanted cells).ops ≡ w.ops ++ (b.ops ++ mark_of r b.pen b.wrapped wanted cells)
+marked_ops r w b wanted cells = by_case (wanted && not b.wrapped) where
   by_case : (c : Bool) →
       (if c
       then record {
         ops = (w.ops ++ b.ops) ++ (after_last_glyph r b.pen cells).ops;
         pen = (after_last_glyph r b.pen cells).pen;
-        flag = b.flag;
+        wrapped = b.wrapped;
       } else ops_then w.ops b).ops
       ≡ w.ops ++ (b.ops ++ (if c then (after_last_glyph r b.pen cells).ops else []))
   by_case true = append_assoc w.ops b.ops (after_last_glyph r b.pen cells).ops
@@ -220,30 +226,32 @@ part_item r start stop x y w t0 t1 part e t =
     t ∙ (ap (λ (z : Scripted). t0 ++ bytes_of_all z.ops) e
     ∙ ap (λ (z : Scripted). t0 ++ bytes_of_all z.ops)
     (sym (cond-false (is_whole start stop (length x.cells))
-    (marked_on r (ops_then range.ops (row_break r range.pen range.flag x.wrapped x.cells)) x.wrapped x.cells) range part)))
+    (marked_on r (ops_then range.ops (row_break r range.pen range.wrapped x.wrapped x.cells)) x.wrapped x.cells)
+    range part)))
 
-pub whole_item : (r start stop : ℕ) (x y : RowValue) (w : Scripted) (pen : Pen) (flag : Bool) (t0 t1 t2 : List ℕ) →
+pub whole_item : (r start stop : ℕ) (x y : RowValue) (w : Scripted) (pen : Pen) (wrapped : Bool) (t0 t1 t2 : List ℕ) →
     is_whole start stop (length x.cells) ≡ true → w ≡ range_written r start stop y.wrapped x.cells y.cells →
-    t1 ≡ t0 ++ bytes_of_all w.ops → pen ≡ w.pen → flag ≡ w.flag →
+    t1 ≡ t0 ++ bytes_of_all w.ops → pen ≡ w.pen → wrapped ≡ w.wrapped →
     t2
     ≡ t1
-    ++ bytes_of_all ((row_break r pen flag x.wrapped x.cells).ops
-    ++ mark_of r (row_break r pen flag x.wrapped x.cells).pen
-    (row_break r pen flag x.wrapped x.cells).flag x.wrapped x.cells) →
+    ++ bytes_of_all ((row_break r pen wrapped x.wrapped x.cells).ops
+    ++ mark_of r (row_break r pen wrapped x.wrapped x.cells).pen
+    (row_break r pen wrapped x.wrapped x.cells).wrapped x.wrapped x.cells) →
     t2 ≡ t0 ++ bytes_of_all (item_of_difference r start stop x y).ops
-whole_item r start stop x y w pen flag t0 t1 t2 whole e t p f more =
+whole_item r start stop x y w pen wrapped t0 t1 t2 whole e t p f more =
     let range = range_written r start stop y.wrapped x.cells y.cells in
-    let b = row_break r range.pen range.flag x.wrapped x.cells in
+    let b = row_break r range.pen range.wrapped x.wrapped x.cells in
     let rest = λ (q : Pen) (g : Bool). (row_break r q g x.wrapped x.cells).ops
-    ++ mark_of r (row_break r q g x.wrapped x.cells).pen (row_break r q g x.wrapped x.cells).flag x.wrapped x.cells in
-    let same : rest pen flag ≡ rest range.pen range.flag =
-    ap (λ (q : Pen). rest q flag) (p ∙ ap (λ (z : Scripted). z.pen) e)
-    ∙ ap (λ (g : Bool). rest range.pen g) (f ∙ ap (λ (z : Scripted). z.flag) e) in
+    ++ mark_of r (row_break r q g x.wrapped x.cells).pen (row_break r q g x.wrapped x.cells).wrapped
+    x.wrapped x.cells in
+    let same : rest pen wrapped ≡ rest range.pen range.wrapped =
+    ap (λ (q : Pen). rest q wrapped) (p ∙ ap (λ (z : Scripted). z.pen) e)
+    ∙ ap (λ (g : Bool). rest range.pen g) (f ∙ ap (λ (z : Scripted). z.wrapped) e) in
     let first : t1 ≡ t0 ++ bytes_of_all range.ops = t ∙ ap (λ (z : Scripted). t0 ++ bytes_of_all z.ops) e in
     more ∙ (ap (λ (ops : List Op). t1 ++ bytes_of_all ops) same
-    ∙ (ap (λ (z : List ℕ). z ++ bytes_of_all (rest range.pen range.flag)) first
-    ∙ (append_assoc t0 (bytes_of_all range.ops) (bytes_of_all (rest range.pen range.flag))
-    ∙ (ap (λ (z : List ℕ). t0 ++ z) (sym (flat_map-append bytes_of range.ops (rest range.pen range.flag)))
+    ∙ (ap (λ (z : List ℕ). z ++ bytes_of_all (rest range.pen range.wrapped)) first
+    ∙ (append_assoc t0 (bytes_of_all range.ops) (bytes_of_all (rest range.pen range.wrapped))
+    ∙ (ap (λ (z : List ℕ). t0 ++ z) (sym (flat_map-append bytes_of range.ops (rest range.pen range.wrapped)))
     ∙ (ap (λ (ops : List Op). t0 ++ bytes_of_all ops) (sym (marked_ops r range b x.wrapped x.cells))
     ∙ ap (λ (z : Scripted). t0 ++ bytes_of_all z.ops)
     (sym (cond-true (is_whole start stop (length x.cells))
@@ -254,7 +262,7 @@ whole_item r start stop x y w pen flag t0 t1 t2 whole e t p f more =
 pub linked_wrote : (r : ℕ) (xs ys : List CellValue) (pen p1 : Pen) (link : Link) (t0 t1 t2 : List ℕ) →
     ys ≡ blanks default_attrs (length xs) → pen ≡ pen_at r 0 default_attrs →
     Links t0 t1 p1 link (first_written r pen false xs ys) →
-    t2 ≡ t1 ++ bytes_of_all (cells_from r link.settled p1 link.flag xs ys).ops →
+    t2 ≡ t1 ++ bytes_of_all (cells_from r link.settled p1 link.wrapped xs ys).ops →
     t2 ≡ t0 ++ bytes_of_all (linked_item r xs).ops
 linked_wrote r xs ys pen p1 link t0 t1 t2 e p h more =
     let over = blanks default_attrs (length xs) in
@@ -264,16 +272,16 @@ linked_wrote r xs ys pen p1 link t0 t1 t2 e p h more =
     let first = first_written r (pen_at r 0 default_attrs) false xs over in
     let n : link.settled ≡ first.settled = h.done ∙ ap (λ w. w.settled) same in
     let q : p1 ≡ first.pen = h.stands ∙ ap (λ w. w.pen) same in
-    let f : link.flag ≡ first.flag = h.is_wrapped ∙ ap (λ w. w.flag) same in
-    let cells = cells_written r 0 first.pen first.flag first.settled xs over in
-    let zero_settled : cells_from r first.settled first.pen first.flag xs over ≡ cells =
-    sym (settled_passed r 0 first.pen first.flag first.settled xs over
-    ∙ ap (λ (k : ℕ). cells_written r k first.pen first.flag 0 (drop first.settled xs) (drop first.settled over))
+    let f : link.wrapped ≡ first.wrapped = h.is_wrapped ∙ ap (λ w. w.wrapped) same in
+    let cells = cells_written r 0 first.pen first.wrapped first.settled xs over in
+    let zero_settled : cells_from r first.settled first.pen first.wrapped xs over ≡ cells =
+    sym (settled_passed r 0 first.pen first.wrapped first.settled xs over
+    ∙ ap (λ (k : ℕ). cells_written r k first.pen first.wrapped 0 (drop first.settled xs) (drop first.settled over))
     (omega arith)) in
-    let reads : cells_from r link.settled p1 link.flag xs ys ≡ cells =
-    ap (λ (zs : List CellValue). cells_from r link.settled p1 link.flag xs zs) e
-    ∙ (ap (λ (k : ℕ). cells_from r k p1 link.flag xs over) n
-    ∙ (ap (λ (z : Pen). cells_from r first.settled z link.flag xs over) q
+    let reads : cells_from r link.settled p1 link.wrapped xs ys ≡ cells =
+    ap (λ (zs : List CellValue). cells_from r link.settled p1 link.wrapped xs zs) e
+    ∙ (ap (λ (k : ℕ). cells_from r k p1 link.wrapped xs over) n
+    ∙ (ap (λ (z : Pen). cells_from r first.settled z link.wrapped xs over) q
     ∙ (ap (λ (b : Bool). cells_from r first.settled first.pen b xs over) f ∙ zero_settled))) in
     let text : t1 ≡ t0 ++ bytes_of_all first.ops = h.bytes ∙ ap (λ w. t0 ++ bytes_of_all w.ops) same in
     more ∙ (ap (λ (w : Scripted). t1 ++ bytes_of_all w.ops) reads
@@ -439,24 +447,24 @@ text_after_some old first mid more whole e f some =
 
 -- If nothing was refused, the output of a row, or of a link, was written in full.
 pub wrote_all : (text : List ℕ) (whole : Scripted) →
-    Writes text (text ++ bytes_of_all whole.ops) whole.pen whole.flag whole
+    Writes text (text ++ bytes_of_all whole.ops) whole.pen whole.wrapped whole
 wrote_all text whole = record { bytes = refl; stands = refl; is_wrapped = refl }
 
 abbrev pub link_made : Linked → Link
-link_made whole = record { flag = whole.flag; settled = whole.settled }
+link_made whole = record { wrapped = whole.wrapped; settled = whole.settled }
 
 pub linked_all : (text : List ℕ) (whole : Linked) →
     Links text (text ++ bytes_of_all whole.ops) whole.pen (link_made whole) whole
 linked_all text whole = record { bytes = refl; stands = refl; is_wrapped = refl; done = refl }
 
-pub row_some : (r k : ℕ) (pen : Pen) (flag : Bool) (x : RowValue) (ys : List CellValue) →
-    0 < length (bytes_of_all (cells_from r k pen flag x.cells ys).ops) →
-    0 < length (bytes_of_all (row_written r k pen flag x ys).ops)
+pub row_some : (r k : ℕ) (pen : Pen) (wrapped : Bool) (x : RowValue) (ys : List CellValue) →
+    0 < length (bytes_of_all (cells_from r k pen wrapped x.cells ys).ops) →
+    0 < length (bytes_of_all (row_written r k pen wrapped x ys).ops)
 unfolding row_written
-row_some r k pen flag x ys some =
-    let cells = cells_written r 0 pen flag k x.cells ys in
-    ops_first cells.ops (row_break r cells.pen cells.flag x.wrapped x.cells).ops
-    (subst (λ (w : Scripted). 0 < length (bytes_of_all w.ops)) (from_settled r k pen flag x.cells ys) some)
+row_some r k pen wrapped x ys some =
+    let cells = cells_written r 0 pen wrapped k x.cells ys in
+    ops_first cells.ops (row_break r cells.pen cells.wrapped x.wrapped x.cells).ops
+    (subst (λ (w : Scripted). 0 < length (bytes_of_all w.ops)) (from_settled r k pen wrapped x.cells ys) some)
 
 -- ---- a single row
 
@@ -470,11 +478,11 @@ range_some r start stop x y w e some = by_case (is_whole start stop (length x.ce
       subst (λ (xs : List ℕ). 0 < length xs)
       (part_item r start stop x y w [] (bytes_of_all w.ops) part e refl) some
   by_case true whole =
-      let more = bytes_of_all ((row_break r w.pen w.flag x.wrapped x.cells).ops
-      ++ mark_of r (row_break r w.pen w.flag x.wrapped x.cells).pen
-      (row_break r w.pen w.flag x.wrapped x.cells).flag x.wrapped x.cells) in
+      let more = bytes_of_all ((row_break r w.pen w.wrapped x.wrapped x.cells).ops
+      ++ mark_of r (row_break r w.pen w.wrapped x.wrapped x.cells).pen
+      (row_break r w.pen w.wrapped x.wrapped x.cells).wrapped x.wrapped x.cells) in
       subst (λ (xs : List ℕ). 0 < length xs)
-      (whole_item r start stop x y w w.pen w.flag [] (bytes_of_all w.ops) (bytes_of_all w.ops ++ more)
+      (whole_item r start stop x y w w.pen w.wrapped [] (bytes_of_all w.ops) (bytes_of_all w.ops ++ more)
       whole e refl refl refl refl)
       (some_first (bytes_of_all w.ops) more some)
 

@@ -263,22 +263,23 @@ unfolding buffered_text
 gathered_more text old more = sym (append_assoc text old more)
 
 -- Buffering the text of a glyph that looks like the one before the pen leads on.
-pub alike_leads : (form : Form) (r c n : ℕ) (a : Attrs) (flag later : Bool) (like : CellValue) (own others xs ys : List CellValue)
+pub alike_leads : (form : Form) (r c n : ℕ) (a : Attrs) (wrapped later : Bool) (like : CellValue)
+    (own others xs ys : List CellValue)
     (text old new : List ℕ) → IsAlike c like own others → 0 < length (text_of like) → a ≡ attrs_of like →
     own ≡ take (length own) xs → length own ≤ length xs → others ≡ take (length others) ys →
     All (λ cell. is_blank cell ≡ true) (drop (length others) ys) → length xs ≤ length ys →
     n ≡ glyph_columns (is_wide like) → new ≡ old ++ text_of (at own c) →
-    later ≡ wrapped_after_glyph flag (is_wide like) (drop (c + n) ys) →
+    later ≡ wrapped_after_glyph wrapped (is_wide like) (drop (c + n) ys) →
     Leads (buffered_text text new) (cells_from r (c + n) (pen_past form r (c + n) a (text_of (at own c))) later xs ys)
-    (buffered_text text old) (cells_from r c (pen_in form r c a) flag xs ys)
-alike_leads form r c n a flag later like own others xs ys text old new alike some drawn is_own inside is_others blanks le
-    count pushed flags =
+    (buffered_text text old) (cells_from r c (pen_in form r c a) wrapped xs ys)
+alike_leads form r c n a wrapped later like own others xs ys text old new alike some drawn is_own inside
+    is_others blanks le count pushed flags =
     let x = at own c in
     let attrs : a ≡ attrs_of x = drawn ∙ sym (ap (λ head. head.attrs) alike.head) in
     let wide : is_wide x ≡ is_wide like = ap (λ head. head.shape.wide) alike.head in
     let columns : n ≡ glyph_columns (is_wide x) = count ∙ ap glyph_columns (sym wide) in
     let within = alike.inside in
-    glyph_leads r c n (pen_in form r c a) (pen_past form r (c + n) a (text_of x)) flag later xs ys x
+    glyph_leads r c n (pen_in form r c a) (pen_past form r (c + n) a (text_of x)) wrapped later xs ys x
     (buffered_text text old) (buffered_text text new) (own_at c own xs is_own alike.inside)
     (omega arith) le (alike_other c like own others xs ys alike some is_own is_others blanks (omega arith))
     (text_not_blank x (alike_text c like own others alike some)) columns
@@ -289,7 +290,7 @@ alike_leads form r c n a flag later like own others xs ys text old new alike som
     ∙ printed_again form r c a (text_of x)))))
     (ap (λ (k : ℕ). pen_past form r (c + k) a (text_of x)) columns
     ∙ ap (λ (b : Attrs). pen_past form r (c + glyph_columns (is_wide x)) b (text_of x)) attrs)
-    (flags ∙ ap (λ (w : Bool). wrapped_after_glyph flag w (drop (c + n) ys)) (sym wide))
+    (flags ∙ ap (λ (w : Bool). wrapped_after_glyph wrapped w (drop (c + n) ys)) (sym wide))
 
 -- Terminals agree on where the cursor is after a glyph of one byte.
 pub short_past : (form : Form) (r c : ℕ) (a : Attrs) (text : List ℕ) → length text ≡ 1 →
@@ -299,7 +300,8 @@ short_past Portable r c a text e =
     ap (λ (n : ℕ). record (pen_in Portable r c a) { is_shifted = not ((n == 1) || is_certain_text text) }) e
 
 -- A narrow glyph leaves the wrapped flag unchanged.
-pub narrow_keeps : (flag wide : Bool) (rest : List CellValue) → wide ≡ false → flag ≡ wrapped_after_glyph flag wide rest
+pub narrow_keeps : (wrapped wide : Bool) (rest : List CellValue) → wide ≡ false → wrapped ≡ wrapped_after_glyph
+    wrapped wide rest
 narrow_keeps true wide rest e = rw e refl
 narrow_keeps false wide rest e = refl
 
@@ -327,18 +329,21 @@ some_columns true = omega arith
 some_columns false = omega arith
 
 -- Buffering a glyph and then the glyphs that look like it leads to the column after the last of them.
-pub alike_settles : (row col m r c next : ℕ) (pen later : Pen) (flag on : Bool) (xs ys : List CellValue)
-    (old mid new : List ℕ) (whole : Scripted) → Leads mid (cells_from row (col + m) pen flag xs ys) old whole →
-    Leads new (cells_from r next later on xs ys) mid (cells_from r c pen flag xs ys) →
+pub alike_settles : (row col m r c next : ℕ) (pen later : Pen) (wrapped is_wrapped : Bool) (xs ys : List CellValue)
+    (old mid new : List ℕ) (whole : Scripted) → Leads mid (cells_from row (col + m) pen wrapped xs ys) old whole →
+    Leads new (cells_from r next later is_wrapped xs ys) mid (cells_from r c pen wrapped xs ys) →
     r ≡ row → c ≡ col + m → c ≤ next →
-    Leads new (cells_from row (col + (next - col)) later on xs ys) old whole
-alike_settles row col m r c next pen later flag on xs ys old mid new whole first second rows columns order =
+    Leads new (cells_from row (col + (next - col)) later is_wrapped xs ys) old whole
+alike_settles row col m r c next pen later wrapped is_wrapped xs ys old mid new whole first second rows columns order =
     let sum : next ≡ col + (next - col) = omega arith in
-    leads_then old mid new whole (cells_from row (col + m) pen flag xs ys)
-    (cells_from row (col + (next - col)) later on xs ys) first
-    (subst (λ (j : ℕ). Leads new (cells_from row j later on xs ys) mid (cells_from row (col + m) pen flag xs ys)) sum
-    (subst (λ (j : ℕ). Leads new (cells_from row next later on xs ys) mid (cells_from row j pen flag xs ys)) columns
-    (subst (λ (j : ℕ). Leads new (cells_from j next later on xs ys) mid (cells_from j c pen flag xs ys)) rows second)))
+    leads_then old mid new whole (cells_from row (col + m) pen wrapped xs ys)
+    (cells_from row (col + (next - col)) later is_wrapped xs ys) first
+    (subst (λ (j : ℕ). Leads new (cells_from row j later is_wrapped xs ys) mid
+    (cells_from row (col + m) pen wrapped xs ys)) sum
+    (subst (λ (j : ℕ). Leads new (cells_from row next later is_wrapped xs ys) mid
+    (cells_from row j pen wrapped xs ys)) columns
+    (subst (λ (j : ℕ). Leads new (cells_from j next later is_wrapped xs ys) mid (cells_from j c pen wrapped xs ys))
+    rows second)))
 
 -- A cell that agrees with a blank in everything except the bytes of its text is that blank.
 pub blank_by_head : (x y : CellValue) → IsCell x → is_blank y ≡ true → head_of_cell x ≡ head_of_cell y → x ≡ y

@@ -169,7 +169,7 @@ pub record IsAlike (c : ℕ) (like : CellValue) (own others : List CellValue) : 
 pub record Leads (text : List ℕ) (written : Scripted) (start : List ℕ) (whole : Scripted) : Type 0 where
   pub bytes : text ++ bytes_of_all written.ops ≡ start ++ bytes_of_all whole.ops
   pub pen : written.pen ≡ whole.pen
-  pub flag : written.flag ≡ whole.flag
+  pub wrapped : written.wrapped ≡ whole.wrapped
 
 -- Appending the remaining output `written` to `text` gives the same text, pen and wrapped flag as appending the whole
 -- output `whole` to `start`, and `text` is not shorter than `start`.
@@ -179,23 +179,24 @@ pub record LeadsOn (text : List ℕ) (written : Scripted) (start : List ℕ) (wh
 
 -- The output that replaces the displayed cells `ys` of row `r` with the cells `xs`, starting at column `c`.
 abbrev pub cells_from : (r c : ℕ) → Pen → Bool → (xs ys : List CellValue) → Scripted
-cells_from r c pen flag xs ys = cells_written r c pen flag 0 (drop c xs) (drop c ys)
+cells_from r c pen wrapped xs ys = cells_written r c pen wrapped 0 (drop c xs) (drop c ys)
 
 -- The output that replaces the displayed row `y` with the row `x`, starting at a position.
 abbrev pub cells_over : Pos → Pen → Bool → (x y : RowValue) → Scripted
-cells_over pos pen flag x y = cells_from pos.row pos.col pen flag x.cells y.cells
+cells_over pos pen wrapped x y = cells_from pos.row pos.col pen wrapped x.cells y.cells
 
 -- The output that replaces the displayed row `y` with the row `x`, starting at a position. A continuation cell of `x`
 -- at that position counts as a default blank.
 abbrev pub range_over : Pos → Pen → Bool → (x y : RowValue) → Scripted
-range_over pos pen flag x y =
-    cells_written pos.row pos.col pen flag 0 (with_whole_start (drop pos.col x.cells))
+range_over pos pen wrapped x y =
+    cells_written pos.row pos.col pen wrapped 0 (with_whole_start (drop pos.col x.cells))
     (with_whole_start_over (drop pos.col x.cells) (drop pos.col y.cells))
 
 -- All cells in columns `c..next` are skipped, so the output from column `c` on equals the output from column `next`
 -- on.
 pub record Passes (c next : ℕ) (xs ys : List CellValue) : Type 0 where
-  pub same : (r : ℕ) (pen : Pen) (flag : Bool) → cells_from r c pen flag xs ys ≡ cells_from r next pen flag xs ys
+  pub same : (r : ℕ) (pen : Pen) (wrapped : Bool) → cells_from r c pen wrapped xs ys ≡ cells_from r next pen
+      wrapped xs ys
 
 -- `result` is the result of a call that appends the output of `ops` to a sink, whose contents are `start` before the
 -- call and `end` after it. If the call succeeds, `end` is `start` followed by this output. The call fails only if this
@@ -218,12 +219,12 @@ pub record GathersOrStops {A E : Type 0} (result : Result A E) (start before end
 -- displayed row `y`, starting at `pos`. The sink and the buffer hold `start` and `before` before the call, and `end`
 -- and `after` after it. If the call succeeds, it returns the number of columns that it has drawn, which is at least
 -- one and at most the number of columns left in `y`. In this case, `end`, then `after`, then the output for the rest
--- of the row (from `pen` and `flag`, the state after the call) equal `start`, then `before`, then the output `whole`;
--- and `end` is not shorter than `start`. The call fails only if `before` or the output `whole` is not empty.
+-- of the row (from `pen` and `wrapped`, the state after the call) equal `start`, then `before`, then the output
+-- `whole`; and `end` is not shorter than `start`. The call fails only if `before` or the output `whole` is not empty.
 pub record SettlesOrStops {E : Type 0} (result : Result ℕ E) (start before end after : List ℕ)
-    (pen : Pen) (flag : Bool) (pos : Pos) (x y : RowValue) (whole : Scripted) : Type 0 where
+    (pen : Pen) (wrapped : Bool) (pos : Pos) (x y : RowValue) (whole : Scripted) : Type 0 where
   pub leads : IfOk result (λ n. Leads (buffered_text end after)
-      (cells_from pos.row (pos.col + n) pen flag x.cells y.cells) (buffered_text start before) whole)
+      (cells_from pos.row (pos.col + n) pen wrapped x.cells y.cells) (buffered_text start before) whole)
   pub nonempty : IfOk result (λ n. 0 < n)
   pub inside : IfOk result (λ n. pos.col + n ≤ length y.cells)
   pub grows : OnOk result (length start ≤ length end)
@@ -234,7 +235,7 @@ pub record SettlesOrStops {E : Type 0} (result : Result ℕ E) (start before end
 pub record Links (start text : List ℕ) (pen : Pen) (link : Link) (whole : Linked) : Type 0 where
   pub bytes : text ≡ start ++ bytes_of_all whole.ops
   pub stands : pen ≡ whole.pen
-  pub is_wrapped : link.flag ≡ whole.flag
+  pub is_wrapped : link.wrapped ≡ whole.wrapped
   pub done : link.settled ≡ whole.settled
 
 -- `result` is the result of a call that writes a link, which is the output that joins a row to the wrapped row above
@@ -247,36 +248,37 @@ pub record LinksOrStops {E : Type 0} (result : Result Link E)
 
 -- `text` is `start` followed by the output of a row, and the pen and the wrapped flag after the row are those of
 -- `whole`.
-pub record Writes (start text : List ℕ) (pen : Pen) (flag : Bool) (whole : Scripted) : Type 0 where
+pub record Writes (start text : List ℕ) (pen : Pen) (wrapped : Bool) (whole : Scripted) : Type 0 where
   pub bytes : text ≡ start ++ bytes_of_all whole.ops
   pub stands : pen ≡ whole.pen
-  pub is_wrapped : flag ≡ whole.flag
+  pub is_wrapped : wrapped ≡ whole.wrapped
 
 -- The output for row `r` that follows the link between this row and the row above.
 abbrev pub row_behind : ℕ → Link → Pen → (x y : RowValue) → Scripted
-row_behind r link pen x y = row_written r link.settled pen link.flag x y.cells
+row_behind r link pen x y = row_written r link.settled pen link.wrapped x y.cells
 
 -- The output that turns the rows of `ys` below row `r`, which the terminal displays, into the rows of `xs` below row
 -- `r`.
 abbrev pub rows_under : (r width : ℕ) → Pen → Bool → (xs ys : List RowValue) → Scripted
-rows_under r width pen on xs ys = rows_below r pen (row_or width xs r) on (drop (r + 1) xs) (drop (r + 1) ys)
+rows_under r width pen wrapped_above xs ys = rows_below r pen (row_or width xs r) wrapped_above (drop (r + 1) xs)
+    (drop (r + 1) ys)
 
 -- The operations that leave a wrap pending at the end of row `r` by printing its last glyph again, if the row must be
--- wrapped (`wanted`) and the terminal's row is not (`flag`); otherwise none.
-abbrev pub mark_of : ℕ → Pen → (flag wanted : Bool) → List CellValue → List Op
-mark_of r pen flag wanted cells = if wanted && not flag then (after_last_glyph r pen cells).ops else []
+-- wrapped (`wanted`) and the terminal's row is not (`wrapped`); otherwise none.
+abbrev pub mark_of : ℕ → Pen → (wrapped wanted : Bool) → List CellValue → List Op
+mark_of r pen wrapped wanted cells = if wanted && not wrapped then (after_last_glyph r pen cells).ops else []
 
 -- The output that clears the wrapped flag of the terminal's row if the flag is set and the row `x` is not wrapped;
 -- otherwise empty.
 abbrev pub break_of : ℕ → Pen → Bool → RowValue → Scripted
-break_of r pen flag x = row_break r pen flag x.wrapped x.cells
+break_of r pen wrapped x = row_break r pen wrapped x.wrapped x.cells
 
 -- The operations that follow the cells of a whole row `x`. They clear the wrapped flag of the terminal's row if only
 -- the terminal's row is wrapped, and leave a wrap pending if only the row `x` is wrapped.
 abbrev pub end_ops : ℕ → Pen → Bool → RowValue → List Op
-end_ops r pen flag x =
-    (break_of r pen flag x).ops
-    ++ mark_of r (break_of r pen flag x).pen (break_of r pen flag x).flag x.wrapped x.cells
+end_ops r pen wrapped x =
+    (break_of r pen wrapped x).ops
+    ++ mark_of r (break_of r pen wrapped x).pen (break_of r pen wrapped x).wrapped x.wrapped x.cells
 
 -- The cell is valid, and its text has at most `bound` bytes.
 pub record IsWithin (bound : ℕ) (cell : CellValue) : Type 0 where

@@ -36,8 +36,8 @@ with_whole_start_over _ ys = ys
 
 -- The output that replaces the displayed cells `ys` with `xs` in the columns `start..stop` of row `r`.
 abbrev pub range_written : (r start stop : ℕ) → Bool → (xs ys : List CellValue) → Scripted
-range_written r start stop flag xs ys =
-    cells_written r start (pen_at r start default_attrs) flag 0
+range_written r start stop wrapped xs ys =
+    cells_written r start (pen_at r start default_attrs) wrapped 0
     (with_whole_start (in_range start stop xs)) (with_whole_start_over (in_range start stop xs) (drop start ys))
 
 abbrev pub is_whole : (start stop width : ℕ) → Bool
@@ -47,11 +47,11 @@ is_whole start stop width = (start == 0) && (stop == width)
 -- terminal's row is not.
 abbrev pub marked_on : ℕ → Scripted → Bool → List CellValue → Scripted
 marked_on r w wanted cells =
-    if wanted && not w.flag
+    if wanted && not w.wrapped
     then record {
       ops = w.ops ++ (after_last_glyph r w.pen cells).ops;
       pen = (after_last_glyph r w.pen cells).pen;
-      flag = w.flag;
+      wrapped = w.wrapped;
     } else w
 
 -- Whether the row above the row at the given index is wrapped.
@@ -65,7 +65,7 @@ is_linked width rows (suc r) = (row_or width rows r).wrapped
 abbrev pub item_of_difference : (r start stop : ℕ) → (x y : RowValue) → Scripted
 item_of_difference r start stop x y =
     let w = range_written r start stop y.wrapped x.cells y.cells in
-    let b = row_break r w.pen w.flag x.wrapped x.cells in
+    let b = row_break r w.pen w.wrapped x.wrapped x.cells in
     if is_whole start stop (length x.cells) then marked_on r (ops_then w.ops b) x.wrapped x.cells else w
 
 -- The output that draws a whole row on a blank row below a wrapped row. The row's first cell is printed while a wrap is
@@ -73,7 +73,7 @@ item_of_difference r start stop x y =
 abbrev pub linked_item : ℕ → List CellValue → Scripted
 linked_item r xs =
     let first = first_written r (pen_at r 0 default_attrs) false xs (blanks default_attrs (length xs)) in
-    ops_then first.ops (cells_written r 0 first.pen first.flag first.settled xs (blanks default_attrs (length xs)))
+    ops_then first.ops (cells_written r 0 first.pen first.wrapped first.settled xs (blanks default_attrs (length xs)))
 
 -- The output that draws a range of a row over a blank row; `linked` is true if the row above is wrapped.
 abbrev pub item_of_redraw : (r start stop : ℕ) → (linked : Bool) → RowValue → Scripted
@@ -116,7 +116,7 @@ pub record AwaitsItem (self : Picture) (r c : ℕ) (stood : RowValue) (any : Can
 -- the row `x`.
 abbrev pub changed_row : (r start stop : ℕ) → (x y : RowValue) → RowValue
 changed_row r start stop x y =
-    record { cells = with_range start stop x.cells y.cells; wrapped = (item_of_difference r start stop x y).flag }
+    record { cells = with_range start stop x.cells y.cells; wrapped = (item_of_difference r start stop x y).wrapped }
 
 -- A blank row of a terminal after the output of `item_of_redraw` has drawn a range of the given row on it.
 abbrev pub formatted_row : (start stop width : ℕ) → RowValue → RowValue

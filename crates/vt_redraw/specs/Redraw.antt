@@ -22,32 +22,32 @@ use Rattle.vt_redraw.specs.Script.{last_glyph, cells_written, Linked, no_link, r
 -- The output for row `r`: the row's cells, except for the first `settled` cells, followed by the row break, that is, the
 -- output that clears the wrapped flag if the row must not be wrapped.
 unfoldable pub row_written : (r settled : ℕ) → Pen → Bool → RowValue → List CellValue → Scripted
-row_written r settled pen flag x ys =
-    let cells = cells_written r 0 pen flag settled x.cells ys in
-    ops_then cells.ops (row_break r cells.pen cells.flag x.wrapped x.cells)
+row_written r settled pen wrapped x ys =
+    let cells = cells_written r 0 pen wrapped settled x.cells ys in
+    ops_then cells.ops (row_break r cells.pen cells.wrapped x.wrapped x.cells)
 
 -- The output that joins row `r` to the next row if the picture's row `above` is wrapped and the terminal must be made
 -- to wrap (see `row_link`); otherwise empty.
 abbrev pub link_of : ℕ → Pen → RowValue → Bool → RowValue → RowValue → Linked
-link_of r pen above on x y =
-    if above.wrapped then row_link r pen above.cells on y.wrapped x.cells y.cells else no_link pen y.wrapped
+link_of r pen above wrapped_above x y =
+    if above.wrapped then row_link r pen above.cells wrapped_above y.wrapped x.cells y.cells else no_link pen y.wrapped
 
 -- The output that turns the rows `ys`, which the terminal displays below row `r`, into the rows `xs`. `above` is row
--- `r` of the new picture, and `on` is true if row `r` of the terminal is wrapped.
+-- `r` of the new picture, and `wrapped_above` is true if row `r` of the terminal is wrapped.
 unfoldable pub rows_below : ℕ → Pen → RowValue → Bool → (xs ys : List RowValue) → Scripted
-rows_below r pen above on [] ys = no_ops pen on
-rows_below r pen above on (x ∷ xs) [] = no_ops pen on
-rows_below r pen above on (x ∷ xs) (y ∷ ys) =
-    let link = link_of r pen above on x y in
-    let row = row_written (r + 1) link.settled link.pen link.flag x y.cells in
-    ops_then (link.ops ++ row.ops) (rows_below (r + 1) row.pen x row.flag xs ys)
+rows_below r pen above wrapped_above [] ys = no_ops pen wrapped_above
+rows_below r pen above wrapped_above (x ∷ xs) [] = no_ops pen wrapped_above
+rows_below r pen above wrapped_above (x ∷ xs) (y ∷ ys) =
+    let link = link_of r pen above wrapped_above x y in
+    let row = row_written (r + 1) link.settled link.pen link.wrapped x y.cells in
+    ops_then (link.ops ++ row.ops) (rows_below (r + 1) row.pen x row.wrapped xs ys)
 
 unfoldable pub rows_written : Pen → (xs ys : List RowValue) → Scripted
 rows_written pen [] ys = no_ops pen false
 rows_written pen (x ∷ xs) [] = no_ops pen false
 rows_written pen (x ∷ xs) (y ∷ ys) =
     let row = row_written 0 0 pen y.wrapped x y.cells in
-    ops_then row.ops (rows_below 0 row.pen x row.flag xs ys)
+    ops_then row.ops (rows_below 0 row.pen x row.wrapped xs ys)
 
 -- ---- the cursor
 

@@ -105,13 +105,13 @@ erased_count Portable n = n
 pub record Scripted : Type 0 where
   pub ops : List Op
   pub pen : Pen
-  pub flag : Bool
+  pub wrapped : Bool
 
 abbrev pub no_ops : Pen → Bool → Scripted
-no_ops pen flag = record { ops = []; pen = pen; flag = flag }
+no_ops pen wrapped = record { ops = []; pen = pen; wrapped = wrapped }
 
 abbrev pub ops_then : List Op → Scripted → Scripted
-ops_then ops written = record { ops = ops ++ written.ops; pen = written.pen; flag = written.flag }
+ops_then ops written = record { ops = ops ++ written.ops; pen = written.pen; wrapped = written.wrapped }
 
 -- The operations that perform the given operation at a position with the given attributes.
 abbrev pub placed_op : Pen → ℕ → ℕ → Attrs → Op → List Op
@@ -132,31 +132,32 @@ is_torn _ = false
 -- Whether the terminal's row is still wrapped after a glyph is printed. Printing a wide glyph clears the wrapped flag
 -- if the only cell after the glyph is a continuation cell, which becomes blank.
 abbrev pub wrapped_after_glyph : Bool → Bool → List CellValue → Bool
-wrapped_after_glyph flag wide rest = flag && not (wide && is_torn rest)
+wrapped_after_glyph wrapped wide rest = wrapped && not (wide && is_torn rest)
 
 -- Whether the terminal's row is still wrapped after a run of blanks is erased: the row was wrapped before, and the run
 -- neither reaches the last column nor is followed only by a continuation cell.
 abbrev pub wrapped_after_erasure : Bool → List CellValue → Bool
-wrapped_after_erasure flag rest = flag && not (is_nil rest || is_torn rest)
+wrapped_after_erasure wrapped rest = wrapped && not (is_nil rest || is_torn rest)
 
 -- ---- the cells of a row, from left to right
 
 -- The output that replaces the displayed cells `ys` with `xs`, starting at column `c` of row `r`. The first `settled`
 -- cells are already written.
-unfoldable pub cells_written : (r c : ℕ) → Pen → (flag : Bool) → (settled : ℕ) → (xs ys : List CellValue) → Scripted
-cells_written r c pen flag settled [] ys = no_ops pen flag
-cells_written r c pen flag settled (x ∷ xs) [] = no_ops pen flag
-cells_written r c pen flag (suc settled) (x ∷ xs) (y ∷ ys) = cells_written r (c + 1) pen flag settled xs ys
-cells_written r c pen flag zero (right_half ∷ xs) (y ∷ ys) = cells_written r (c + 1) pen flag zero xs ys
-cells_written r c pen flag zero (blank a ∷ xs) (y ∷ ys) =
-    if same_cell (blank a) y then cells_written r (c + 1) pen flag zero xs ys
+unfoldable pub cells_written : (r c : ℕ) → Pen → (wrapped : Bool) → (settled : ℕ) → (xs ys : List CellValue) → Scripted
+cells_written r c pen wrapped settled [] ys = no_ops pen wrapped
+cells_written r c pen wrapped settled (x ∷ xs) [] = no_ops pen wrapped
+cells_written r c pen wrapped (suc settled) (x ∷ xs) (y ∷ ys) = cells_written r (c + 1) pen wrapped settled xs ys
+cells_written r c pen wrapped zero (right_half ∷ xs) (y ∷ ys) = cells_written r (c + 1) pen wrapped zero xs ys
+cells_written r c pen wrapped zero (blank a ∷ xs) (y ∷ ys) =
+    if same_cell (blank a) y then cells_written r (c + 1) pen wrapped zero xs ys
     else ops_then (placed_op pen r c a (erase_run pen.form (suc (blank_run a xs)) (drop (blank_run a xs) ys)))
-    (cells_written r (c + 1) (pen_in pen.form r c a) (wrapped_after_erasure flag (drop (blank_run a xs) ys)) (blank_run a xs) xs ys)
-cells_written r c pen flag zero (glyph text wide a ∷ xs) (y ∷ ys) =
-    if same_cell (glyph text wide a) y then cells_written r (c + 1) pen flag (glyph_columns wide - 1) xs ys
+    (cells_written r (c + 1) (pen_in pen.form r c a) (wrapped_after_erasure wrapped (drop (blank_run a xs) ys))
+    (blank_run a xs) xs ys)
+cells_written r c pen wrapped zero (glyph text wide a ∷ xs) (y ∷ ys) =
+    if same_cell (glyph text wide a) y then cells_written r (c + 1) pen wrapped (glyph_columns wide - 1) xs ys
     else ops_then (placed_op pen r c a (Print text))
     (cells_written r (c + 1) (pen_past pen.form r (c + glyph_columns wide) a text)
-    (wrapped_after_glyph flag wide (drop 1 ys)) (glyph_columns wide - 1) xs ys)
+    (wrapped_after_glyph wrapped wide (drop 1 ys)) (glyph_columns wide - 1) xs ys)
 
 -- ---- the last glyph of a row whose last column is not blank
 
@@ -181,7 +182,7 @@ after_last_glyph r pen cells =
     else record {
       ops = placed_op pen r (last_column cells) (attrs_of (last_glyph cells)) (Print (text_of (last_glyph cells)));
       pen = pen_after pen.form r cells;
-      flag = true;
+      wrapped = true;
     }
 
 -- ---- the link of a row to a wrapped row above it
@@ -191,11 +192,11 @@ after_last_glyph r pen cells =
 pub record Linked : Type 0 where
   pub ops : List Op
   pub pen : Pen
-  pub flag : Bool
+  pub wrapped : Bool
   pub settled : ℕ
 
 abbrev pub no_link : Pen → Bool → Linked
-no_link pen flag = record { ops = []; pen = pen; flag = flag; settled = 0 }
+no_link pen wrapped = record { ops = []; pen = pen; wrapped = wrapped; settled = 0 }
 
 -- The operations that make the terminal wrap into row `r`, so that a glyph can be printed in its first column. Printing
 -- the glyph wraps by itself, unless terminals may differ in where the cursor is. Then a space is printed instead, and the
@@ -206,19 +207,19 @@ wrap_ops r pen = if pen.is_shifted then Print (0x20 ∷ []) ∷ MoveTo r 0 ∷ [
 -- The output for the first cell of a row while a wrap is pending in the row above. A blank is printed as a space, which
 -- is then erased.
 abbrev pub first_written : ℕ → Pen → Bool → (xs ys : List CellValue) → Linked
-first_written r pen flag [] ys = no_link pen flag
-first_written r pen flag (x ∷ xs) [] = no_link pen flag
-first_written r pen flag (right_half ∷ xs) (y ∷ ys) = no_link pen flag
-first_written r pen flag (blank a ∷ xs) (y ∷ ys) = record {
+first_written r pen wrapped [] ys = no_link pen wrapped
+first_written r pen wrapped (x ∷ xs) [] = no_link pen wrapped
+first_written r pen wrapped (right_half ∷ xs) (y ∷ ys) = no_link pen wrapped
+first_written r pen wrapped (blank a ∷ xs) (y ∷ ys) = record {
   ops = attr_ops_in pen.form pen.attrs a ++ Print (0x20 ∷ []) ∷ back_op pen.form r 0 ∷ EraseChars 1 ∷ [];
   pen = pen_in pen.form r 0 a;
-  flag = flag && not (is_nil ys);
+  wrapped = wrapped && not (is_nil ys);
   settled = 1;
 }
-first_written r pen flag (glyph text wide a ∷ xs) (y ∷ ys) = record {
+first_written r pen wrapped (glyph text wide a ∷ xs) (y ∷ ys) = record {
   ops = attr_ops_in pen.form pen.attrs a ++ (wrap_ops r pen ++ Print text ∷ []);
   pen = pen_past pen.form r (glyph_columns wide) a text;
-  flag = wrapped_after_glyph flag wide (drop 1 ys);
+  wrapped = wrapped_after_glyph wrapped wide (drop 1 ys);
   settled = glyph_columns wide;
 }
 
@@ -230,17 +231,18 @@ starts_other (x ∷ xs) (y ∷ ys) = is_glyph x && not (same_cell x y)
 
 abbrev pub ops_then_link : List Op → Linked → Linked
 ops_then_link ops link =
-    record { ops = ops ++ link.ops; pen = link.pen; flag = link.flag; settled = link.settled }
+    record { ops = ops ++ link.ops; pen = link.pen; wrapped = link.wrapped; settled = link.settled }
 
 -- The link from the wrapped row `r`, whose cells are `above`, to the next row: output that makes the terminal wrap from
--- row `r` into the next row. Empty if row `r` of the terminal is already wrapped (`on` is true), unless a wrap is
--- pending in row `r` and the next row must begin with a glyph that the terminal does not display there yet.
+-- row `r` into the next row. Empty if row `r` of the terminal is already wrapped (`wrapped_above` is true), unless a
+-- wrap is pending in row `r` and the next row must begin with a glyph that the terminal does not display there yet.
 unfoldable pub row_link : ℕ → Pen → (above : List CellValue) →
-    (on : Bool) → (flag : Bool) → (xs ys : List CellValue) → Linked
-row_link r pen above on flag xs ys =
-    if not on || (is_at pen r (length above) && starts_other xs ys)
-    then ops_then_link (after_last_glyph r pen above).ops (first_written (r + 1) (after_last_glyph r pen above).pen flag xs ys)
-    else no_link pen flag
+    (wrapped_above : Bool) → (wrapped : Bool) → (xs ys : List CellValue) → Linked
+row_link r pen above wrapped_above wrapped xs ys =
+    if not wrapped_above || (is_at pen r (length above) && starts_other xs ys)
+    then ops_then_link (after_last_glyph r pen above).ops
+    (first_written (r + 1) (after_last_glyph r pen above).pen wrapped xs ys)
+    else no_link pen wrapped
 
 -- ---- the break before the row below
 
@@ -253,8 +255,8 @@ break_ops r pen cells = record {
       ++ (EraseChars (erased_count pen.form (length cells - last_column cells))
       ∷ (attr_ops_in pen.form pen.attrs (attrs_of (last_glyph cells)) ++ Print (text_of (last_glyph cells)) ∷ []));
   pen = pen_after pen.form r cells;
-  flag = false;
+  wrapped = false;
 }
 
-unfoldable pub row_break : ℕ → Pen → (flag wanted : Bool) → List CellValue → Scripted
-row_break r pen flag wanted cells = if flag && not wanted then break_ops r pen cells else no_ops pen flag
+unfoldable pub row_break : ℕ → Pen → (wrapped wanted : Bool) → List CellValue → Scripted
+row_break r pen wrapped wanted cells = if wrapped && not wanted then break_ops r pen cells else no_ops pen wrapped

@@ -2,7 +2,7 @@
 //!
 //! Throughout this crate, *the terminal* is the terminal that reads the output, and `over` is the row
 //! that it displays. A cell *needs output* if the terminal does not display it already. A parameter
-//! `flag` is true if the terminal's row is wrapped.
+//! `wrapped` is true if the terminal's row is wrapped.
 
 ghost use Rattle.std.specs.Prelude.{◌≡◌, ◌++◌, ◌+◌, ◌<◌, ◌≤◌, ℕ, List, true, false, IsTrue, OnOk, drop, length};
 ghost use Rattle.vt_cells.specs.Internals.{buffered_text};
@@ -196,24 +196,24 @@ fn gather_run<S: Sink>(
 }
 
 /// Returns whether the terminal's row is still wrapped after printing a glyph that ends just before
-/// column `col`. `flag` is true if the row was wrapped, and `wide` if the glyph is wide.
-pub fn wrapped_after_glyph(flag: bool, wide: bool, over: &PictureRow<'_>, col: u16) -> bool
-    ensures { result ≡ wrapped_after_glyph flag wide (drop col over.now.cells) }
+/// column `col`. `wrapped` is true if the row was wrapped, and `wide` if the glyph is wide.
+pub fn wrapped_after_glyph(wrapped: bool, wide: bool, over: &PictureRow<'_>, col: u16) -> bool
+    ensures { result ≡ wrapped_after_glyph wrapped wide (drop col over.now.cells) }
 {
-    flag && !(wide && over.is_torn(col))
+    wrapped && !(wide && over.is_torn(col))
 }
 
 /// Returns whether the terminal's row is still wrapped after erasing a run of columns that ends just
-/// before column `col`. `flag` is true if the row was wrapped.
+/// before column `col`. `wrapped` is true if the row was wrapped.
 #[tactic(auto, using(crate::proofs::Filling::nil_at))]
-pub fn wrapped_after_erasure(flag: bool, over: &PictureRow<'_>, col: u16) -> bool
+pub fn wrapped_after_erasure(wrapped: bool, over: &PictureRow<'_>, col: u16) -> bool
     requires { col ≤ length over.now.cells }
-    ensures { result ≡ wrapped_after_erasure flag (drop col over.now.cells) }
+    ensures { result ≡ wrapped_after_erasure wrapped (drop col over.now.cells) }
 {
     if col == over.cols() {
         return false;
     }
-    flag && !over.is_torn(col)
+    wrapped && !over.is_torn(col)
 }
 
 /// Returns whether `own` has a stored cell in column `col` that has the same attributes, width and
@@ -232,13 +232,13 @@ fn is_alike(like: &Cell, own: &[Cell], others: &[Cell], col: u16) -> bool
 
 /// Buffers consecutive narrow glyphs, starting at the pen, whose text is one byte long and whose
 /// attributes are those of `like`, and moves the pen past them. Stops at a glyph that the terminal
-/// already displays or that does not fit in the buffer. `like` must itself be such a glyph. `flag` is
-/// true if the terminal's row is wrapped.
+/// already displays or that does not fit in the buffer. `like` must itself be such a glyph.
+/// `wrapped` is true if the terminal's row is wrapped.
 #[inline(always)]
 fn gather_alike(
     buffer: &mut Buffer,
     pen: &mut Pen,
-    flag: bool,
+    wrapped: bool,
     like: &Cell,
     cells: &PictureRow<'_>,
     over: &PictureRow<'_>,
@@ -251,9 +251,9 @@ fn gather_alike(
     requires placed { pen.old.is_shifted ≡ false }
     requires inside { pen.old.col ≤ length over.now.cells }
     ensures leads { (text : List ℕ) → Leads (buffered_text text buffer.new)
-        (cells_from pen.old.row pen.new.col pen.new flag cells.now.cells over.now.cells)
+        (cells_from pen.old.row pen.new.col pen.new wrapped cells.now.cells over.now.cells)
         (buffered_text text buffer.old)
-        (cells_from pen.old.row pen.old.col pen.old flag cells.now.cells over.now.cells) }
+        (cells_from pen.old.row pen.old.col pen.old wrapped cells.now.cells over.now.cells) }
     ensures order { pen.old.col ≤ pen.new.col }
     ensures inside { pen.new.col ≤ length over.now.cells }
 {
@@ -269,14 +269,14 @@ fn gather_alike(
 
 /// Buffers consecutive glyphs, starting at the pen, that have the same attributes, width and text
 /// length as the glyph `like`, and moves the pen past them. Stops at a glyph that the terminal
-/// already displays or that does not fit in the buffer. `flag` is true if the terminal's row is
+/// already displays or that does not fit in the buffer. `wrapped` is true if the terminal's row is
 /// wrapped, and is updated. `form` is the pen's: if it is a constant, the loop does not test it.
 #[inline(always)]
 fn gather_in(
     form: Form,
     buffer: &mut Buffer,
     pen: &mut Pen,
-    flag: &mut bool,
+    wrapped: &mut bool,
     like: &Cell,
     cells: &PictureRow<'_>,
     over: &PictureRow<'_>,
@@ -288,9 +288,9 @@ fn gather_in(
     requires attrs { pen.old.attrs ≡ attrs_of like.now }
     requires inside { pen.old.col ≤ length over.now.cells }
     ensures leads { (text : List ℕ) → Leads (buffered_text text buffer.new)
-        (cells_from pen.old.row pen.new.col pen.new flag.new cells.now.cells over.now.cells)
+        (cells_from pen.old.row pen.new.col pen.new wrapped.new cells.now.cells over.now.cells)
         (buffered_text text buffer.old)
-        (cells_from pen.old.row pen.old.col pen.old flag.old cells.now.cells over.now.cells) }
+        (cells_from pen.old.row pen.old.col pen.old wrapped.old cells.now.cells over.now.cells) }
     ensures order { pen.old.col ≤ pen.new.col }
     ensures inside { pen.new.col ≤ length over.now.cells }
 {
@@ -300,29 +300,29 @@ fn gather_in(
     let others = over.own_cells();
     let count = columns(like);
     let mut col = pen.col;
-    let mut on = *flag;
+    let mut is_wrapped = *wrapped;
     let mut is_shifted = pen.is_shifted;
     while !is_shifted && bytes <= buffer.room() && is_alike(like, own, others, col) {
         let cell = &own[usize::from(col)];
         buffer.push(cell.contents());
         is_shifted = shifts(form, cell);
         col += count;
-        on = wrapped_after_glyph(on, wide, over, col);
+        is_wrapped = wrapped_after_glyph(is_wrapped, wide, over, col);
     }
     pen.col = col;
     pen.is_shifted = is_shifted;
-    *flag = on;
+    *wrapped = is_wrapped;
 }
 
 /// Buffers consecutive glyphs, starting at the pen, that have the same attributes, width and text
 /// length as the glyph `like`, and moves the pen past them. Stops at a glyph that the terminal
-/// already displays or that does not fit in the buffer. `flag` is true if the terminal's row is
+/// already displays or that does not fit in the buffer. `wrapped` is true if the terminal's row is
 /// wrapped, and is updated.
 #[inline(never)]
 fn gather_more(
     buffer: &mut Buffer,
     pen: &mut Pen,
-    flag: &mut bool,
+    wrapped: &mut bool,
     like: &Cell,
     cells: &PictureRow<'_>,
     over: &PictureRow<'_>,
@@ -333,27 +333,27 @@ fn gather_more(
     requires attrs { pen.old.attrs ≡ attrs_of like.now }
     requires inside { pen.old.col ≤ length over.now.cells }
     ensures leads { (text : List ℕ) → Leads (buffered_text text buffer.new)
-        (cells_from pen.old.row pen.new.col pen.new flag.new cells.now.cells over.now.cells)
+        (cells_from pen.old.row pen.new.col pen.new wrapped.new cells.now.cells over.now.cells)
         (buffered_text text buffer.old)
-        (cells_from pen.old.row pen.old.col pen.old flag.old cells.now.cells over.now.cells) }
+        (cells_from pen.old.row pen.old.col pen.old wrapped.old cells.now.cells over.now.cells) }
     ensures order { pen.old.col ≤ pen.new.col }
     ensures inside { pen.new.col ≤ length over.now.cells }
 {
     match pen.form {
-        Form::Fixed => gather_in(Form::Fixed, buffer, pen, flag, like, cells, over),
-        Form::Portable => gather_in(Form::Portable, buffer, pen, flag, like, cells, over),
+        Form::Fixed => gather_in(Form::Fixed, buffer, pen, wrapped, like, cells, over),
+        Form::Portable => gather_in(Form::Portable, buffer, pen, wrapped, like, cells, over),
     }
 }
 
 /// Buffers the narrow glyph `cell` at position `pos`, whose text is one byte long, and the glyphs
 /// directly after it that have the same attributes, width and text length. Returns the number of
-/// columns that they take. `flag` is true if the terminal's row is wrapped.
+/// columns that they take. `wrapped` is true if the terminal's row is wrapped.
 #[inline(always)]
 fn gather_short<S: Sink>(
     sink: &mut S,
     buffer: &mut Buffer,
     pen: &mut Pen,
-    flag: bool,
+    wrapped: bool,
     pos: Pos,
     cell: &Cell,
     cells: &PictureRow<'_>,
@@ -365,10 +365,10 @@ fn gather_short<S: Sink>(
     requires one { length (text_of cell.now) ≡ 1 }
     requires narrow { is_wide cell.now ≡ false }
     ensures { SettlesOrStops result (S.text sink.old) buffer.old (S.text sink.new) buffer.new
-        pen.new flag pos cells.now over.now (cells_over pos pen.old flag cells.now over.now) }
+        pen.new wrapped pos cells.now over.now (cells_over pos pen.old wrapped cells.now over.now) }
 {
     gather_byte(sink, buffer, pen, pos, cell)?;
-    gather_alike(buffer, pen, flag, cell, cells, over);
+    gather_alike(buffer, pen, wrapped, cell, cells, over);
     Ok(pen.col - pos.col)
 }
 
@@ -378,7 +378,7 @@ fn gather_long<S: Sink>(
     sink: &mut S,
     buffer: &mut Buffer,
     pen: &mut Pen,
-    flag: &mut bool,
+    wrapped: &mut bool,
     pos: Pos,
     cells: &PictureRow<'_>,
     over: &PictureRow<'_>,
@@ -386,12 +386,12 @@ fn gather_long<S: Sink>(
     requires other { IsOther pos.col cells.now over.now }
     requires glyph { is_blank (at cells.now.cells pos.col) ≡ false }
     ensures { SettlesOrStops result (S.text sink.old) buffer.old (S.text sink.new) buffer.new
-        pen.new flag.new pos cells.now over.now (cells_over pos pen.old flag.old cells.now over.now) }
+        pen.new wrapped.new pos cells.now over.now (cells_over pos pen.old wrapped.old cells.now over.now) }
 {
     let cell = cells.cell(pos.col);
     gather_glyph(sink, buffer, pen, pos, cell)?;
-    *flag = wrapped_after_glyph(*flag, cell.is_wide(), over, pen.col);
-    gather_more(buffer, pen, flag, cell, cells, over);
+    *wrapped = wrapped_after_glyph(*wrapped, cell.is_wide(), over, pen.col);
+    gather_more(buffer, pen, wrapped, cell, cells, over);
     Ok(pen.col - pos.col)
 }
 
@@ -402,7 +402,7 @@ fn gather_glyphs<S: Sink>(
     sink: &mut S,
     buffer: &mut Buffer,
     pen: &mut Pen,
-    flag: &mut bool,
+    wrapped: &mut bool,
     pos: Pos,
     cell: &Cell,
     cells: &PictureRow<'_>,
@@ -412,12 +412,12 @@ fn gather_glyphs<S: Sink>(
     requires cell { cell.now ≡ at cells.now.cells pos.col }
     requires glyph { is_blank cell.now ≡ false }
     ensures { SettlesOrStops result (S.text sink.old) buffer.old (S.text sink.new) buffer.new
-        pen.new flag.new pos cells.now over.now (cells_over pos pen.old flag.old cells.now over.now) }
+        pen.new wrapped.new pos cells.now over.now (cells_over pos pen.old wrapped.old cells.now over.now) }
 {
     if cell.contents().len() == 1 && !cell.is_wide() {
-        return gather_short(sink, buffer, pen, *flag, pos, cell, cells, over);
+        return gather_short(sink, buffer, pen, *wrapped, pos, cell, cells, over);
     }
-    gather_long(sink, buffer, pen, flag, pos, cells, over)
+    gather_long(sink, buffer, pen, wrapped, pos, cells, over)
 }
 
 /// Buffers the glyphs or the run of blanks that begin with `cell` at position `pos`. Returns the
@@ -426,7 +426,7 @@ fn write_next<S: Sink>(
     sink: &mut S,
     buffer: &mut Buffer,
     pen: &mut Pen,
-    flag: &mut bool,
+    wrapped: &mut bool,
     pos: Pos,
     cell: &Cell,
     cells: &PictureRow<'_>,
@@ -435,15 +435,15 @@ fn write_next<S: Sink>(
     requires other { IsOther pos.col cells.now over.now }
     requires cell { cell.now ≡ at cells.now.cells pos.col }
     ensures { SettlesOrStops result (S.text sink.old) buffer.old (S.text sink.new) buffer.new
-        pen.new flag.new pos cells.now over.now (cells_over pos pen.old flag.old cells.now over.now) }
+        pen.new wrapped.new pos cells.now over.now (cells_over pos pen.old wrapped.old cells.now over.now) }
 {
     if !cell::is_blank(cell) {
-        return gather_glyphs(sink, buffer, pen, flag, pos, cell, cells, over);
+        return gather_glyphs(sink, buffer, pen, wrapped, pos, cell, cells, over);
     }
     let attrs = cell::attrs(cell);
     let count = cells.run(pos.col, attrs);
     gather_run(sink, buffer, pen, pos, attrs, count, over)?;
-    *flag = wrapped_after_erasure(*flag, over, pos.col + count);
+    *wrapped = wrapped_after_erasure(*wrapped, over, pos.col + count);
     Ok(count)
 }
 
@@ -456,22 +456,22 @@ fn write_next<S: Sink>(
 pub fn write_cells<S: Sink>(
     sink: &mut S,
     pen: &mut Pen,
-    flag: &mut bool,
+    wrapped: &mut bool,
     pos: Pos,
     cells: &PictureRow<'_>,
     over: &PictureRow<'_>,
 ) -> Result<(), S::Error>
     requires range { IsRange cells.now.cells over.now.cells }
-    ensures writes { OnOk result (Writes (S.text sink.old) (S.text sink.new) pen.new flag.new
-        (cells_over pos pen.old flag.old cells.now over.now)) }
-    ensures nonempty { RefusedOnlyIfSome result (bytes_of_all (cells_over pos pen.old flag.old cells.now over.now).ops) }
+    ensures writes { OnOk result (Writes (S.text sink.old) (S.text sink.new) pen.new wrapped.new
+        (cells_over pos pen.old wrapped.old cells.now over.now)) }
+    ensures nonempty { RefusedOnlyIfSome result (bytes_of_all (cells_over pos pen.old wrapped.old cells.now over.now).ops) }
 {
     let Pos { row, col } = pos;
     let first = next_other(cells, over, col);
     if first >= cells.cols() {
         return Ok(());
     }
-    write_others(sink, pen, flag, Pos { row, col: first }, cells, over)
+    write_others(sink, pen, wrapped, Pos { row, col: first }, cells, over)
 }
 
 /// Writes the output that makes the terminal's row `over` display `cells`, starting at `pos`.
@@ -480,15 +480,15 @@ pub fn write_cells<S: Sink>(
 fn write_others<S: Sink>(
     sink: &mut S,
     pen: &mut Pen,
-    flag: &mut bool,
+    wrapped: &mut bool,
     pos: Pos,
     cells: &PictureRow<'_>,
     over: &PictureRow<'_>,
 ) -> Result<(), S::Error>
     requires range { IsRange cells.now.cells over.now.cells }
-    ensures writes { OnOk result (Writes (S.text sink.old) (S.text sink.new) pen.new flag.new
-        (cells_over pos pen.old flag.old cells.now over.now)) }
-    ensures nonempty { RefusedOnlyIfSome result (bytes_of_all (cells_over pos pen.old flag.old cells.now over.now).ops) }
+    ensures writes { OnOk result (Writes (S.text sink.old) (S.text sink.new) pen.new wrapped.new
+        (cells_over pos pen.old wrapped.old cells.now over.now)) }
+    ensures nonempty { RefusedOnlyIfSome result (bytes_of_all (cells_over pos pen.old wrapped.old cells.now over.now).ops) }
 {
     let cols = cells.cols().min(over.cols());
     let mut buffer = Buffer::new();
@@ -499,7 +499,7 @@ fn write_others<S: Sink>(
             col = next_other(cells, over, col + 1);
         } else {
             let next = Pos { row: pos.row, col };
-            col += write_next(sink, &mut buffer, pen, flag, next, cell, cells, over)?;
+            col += write_next(sink, &mut buffer, pen, wrapped, next, cell, cells, over)?;
         }
     }
     buffer.flush(sink)?;

@@ -3,7 +3,7 @@
 //!
 //! Throughout this module, the *terminal* is the terminal that reads the output, `pen` holds its
 //! cursor position and attributes, `cells` is the row of the picture, and `over` is the row that
-//! the terminal displays. `flag` is true if the terminal's row is wrapped.
+//! the terminal displays. `wrapped` is true if the terminal's row is wrapped.
 
 ghost use Rattle.std.specs.Prelude.{◌≡◌, ◌++◌, ◌+◌, ◌<◌, ◌≤◌, ◌&&◌, false};
 ghost use Rattle.std.specs.Prelude.{IfOk, OnOk, length};
@@ -32,15 +32,15 @@ use vt_cells::{Attrs, Pos, Sink};
 fn write_begin<S: Sink>(
     sink: &mut S,
     pen: &mut Pen,
-    flag: &mut bool,
+    wrapped: &mut bool,
     pos: Pos,
     cells: &PictureRow<'_>,
     over: &PictureRow<'_>,
 ) -> Result<u16, S::Error>
     requires range { IsRange cells.now.cells over.now.cells }
-    ensures leads { IfOk result (λ col. LeadsOn (S.text sink.new) (cells_from pos.row col pen.new flag.new
-        cells.now.cells over.now.cells) (S.text sink.old) (range_over pos pen.old flag.old cells.now over.now)) }
-    ensures nonempty { RefusedOnlyIfSome result (bytes_of_all (range_over pos pen.old flag.old cells.now over.now).ops) }
+    ensures leads { IfOk result (λ col. LeadsOn (S.text sink.new) (cells_from pos.row col pen.new wrapped.new
+        cells.now.cells over.now.cells) (S.text sink.old) (range_over pos pen.old wrapped.old cells.now over.now)) }
+    ensures nonempty { RefusedOnlyIfSome result (bytes_of_all (range_over pos pen.old wrapped.old cells.now over.now).ops) }
 {
     let Pos { row: _, col } = pos;
     if col >= cells.cols().min(over.cols()) {
@@ -55,29 +55,29 @@ fn write_begin<S: Sink>(
     let attrs = Attrs::new();
     let count = cells.run(col + 1, attrs) + 1;
     write_run(sink, pen, pos, attrs, count, over)?;
-    *flag = wrapped_after_erasure(*flag, over, col + count);
+    *wrapped = wrapped_after_erasure(*wrapped, over, col + count);
     Ok(col + count)
 }
 
 /// Writes the sequences that draw the picture's row `cells`, from position `pos` to its end, over
-/// the terminal's row `over`. The caller has cut `cells` at the end of the range to draw. `flag` is
-/// true if the terminal's row is wrapped, and is updated.
+/// the terminal's row `over`. The caller has cut `cells` at the end of the range to draw. `wrapped`
+/// is true if the terminal's row is wrapped, and is updated.
 fn write_range<S: Sink>(
     sink: &mut S,
     pen: &mut Pen,
-    flag: &mut bool,
+    wrapped: &mut bool,
     pos: Pos,
     cells: &PictureRow<'_>,
     over: &PictureRow<'_>,
 ) -> Result<(), S::Error>
     requires range { IsRange cells.now.cells over.now.cells }
-    ensures writes { OnOk result (Writes (S.text sink.old) (S.text sink.new) pen.new flag.new
-        (range_over pos pen.old flag.old cells.now over.now)) }
-    ensures nonempty { RefusedOnlyIfSome result (bytes_of_all (range_over pos pen.old flag.old cells.now over.now).ops) }
+    ensures writes { OnOk result (Writes (S.text sink.old) (S.text sink.new) pen.new wrapped.new
+        (range_over pos pen.old wrapped.old cells.now over.now)) }
+    ensures nonempty { RefusedOnlyIfSome result (bytes_of_all (range_over pos pen.old wrapped.old cells.now over.now).ops) }
 {
     let row = pos.row;
-    let col = write_begin(sink, pen, flag, pos, cells, over)?;
-    write_cells(sink, pen, flag, Pos { row, col }, cells, over)
+    let col = write_begin(sink, pen, wrapped, pos, cells, over)?;
+    write_cells(sink, pen, wrapped, Pos { row, col }, cells, over)
 }
 
 /// Prints the last glyph of a row again if the picture's row is wrapped and the terminal's row is
@@ -86,15 +86,15 @@ fn write_mark<S: Sink>(
     sink: &mut S,
     pen: &mut Pen,
     row: u16,
-    flag: bool,
+    wrapped: bool,
     cells: &PictureRow<'_>,
 ) -> Result<(), S::Error>
     requires nonempty { 0 < length cells.now.cells }
     requires paired { IsPaired cells.now.cells }
     ensures { AppendsOrStops result (S.text sink.old) (S.text sink.new)
-        (mark_of row pen.old flag cells.now.wrapped cells.now.cells) }
+        (mark_of row pen.old wrapped cells.now.wrapped cells.now.cells) }
 {
-    if flag {
+    if wrapped {
         return Ok(());
     }
     if !cells.wrapped() {
@@ -111,15 +111,15 @@ fn write_end<S: Sink>(
     sink: &mut S,
     pen: &mut Pen,
     row: u16,
-    flag: bool,
+    wrapped: bool,
     cells: &PictureRow<'_>,
 ) -> Result<(), S::Error>
     requires nonempty { 0 < length cells.now.cells }
     requires paired { IsPaired cells.now.cells }
-    ensures { AppendsOrStops result (S.text sink.old) (S.text sink.new) (end_ops row pen.old flag cells.now) }
+    ensures { AppendsOrStops result (S.text sink.old) (S.text sink.new) (end_ops row pen.old wrapped cells.now) }
 {
-    let on = write_break(sink, pen, row, flag, cells)?;
-    write_mark(sink, pen, row, on, cells)
+    let is_wrapped = write_break(sink, pen, row, wrapped, cells)?;
+    write_mark(sink, pen, row, is_wrapped, cells)
 }
 
 /// Writes the sequences that draw columns `start..stop` of a row of `view` on a terminal that
@@ -158,13 +158,13 @@ pub fn write_row_diff<S: Sink>(
         form: Form::Fixed,
         is_shifted: false,
     };
-    let mut flag = over.wrapped();
+    let mut wrapped = over.wrapped();
     let pos = Pos { row, col: start };
-    write_range(sink, &mut pen, &mut flag, pos, &cells.up_to(stop), &over)?;
+    write_range(sink, &mut pen, &mut wrapped, pos, &cells.up_to(stop), &over)?;
     if !is_whole(start, stop, &cells) {
         return Ok(());
     }
-    write_end(sink, &mut pen, row, flag, &cells)
+    write_end(sink, &mut pen, row, wrapped, &cells)
 }
 
 /// Returns whether the columns `start..stop` are the whole row.
@@ -190,12 +190,12 @@ fn write_linked<S: Sink>(sink: &mut S, row: u16, cells: &PictureRow<'_>) -> Resu
         is_shifted: false,
     };
     let link = write_first(sink, &mut pen, row, false, cells, &over)?;
-    let mut flag = link.flag;
+    let mut wrapped = link.wrapped;
     let pos = Pos {
         row,
         col: link.settled,
     };
-    write_cells(sink, &mut pen, &mut flag, pos, cells, &over)
+    write_cells(sink, &mut pen, &mut wrapped, pos, cells, &over)
 }
 
 /// Writes a range of columns of the picture's row `cells` over a blank row of the terminal. The
@@ -220,8 +220,8 @@ fn write_over_blanks<S: Sink>(
         form: Form::Fixed,
         is_shifted: false,
     };
-    let mut flag = false;
-    write_range(sink, &mut pen, &mut flag, pos, &cells.up_to(stop), &over)
+    let mut wrapped = false;
+    write_range(sink, &mut pen, &mut wrapped, pos, &cells.up_to(stop), &over)
 }
 
 /// Returns whether the picture's row directly above row `row` is wrapped.

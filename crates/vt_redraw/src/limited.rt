@@ -148,7 +148,7 @@ fn write_rows_within(
 {
     let last = view.rows() - 1;
     let mut above = view.row(0);
-    let mut on = write_top(text, pen, &above, &prev.row(0))?;
+    let mut wrapped_above = write_top(text, pen, &above, &prev.row(0))?;
     let mut row = 0;
     while row < last {
         if text.len() >= limit {
@@ -157,8 +157,8 @@ fn write_rows_within(
         let below = row + 1;
         let cells = view.row(below);
         let over = prev.row(below);
-        let link = write_link(text, pen, row, &above, on, &cells, &over)?;
-        on = write_row(text, pen, below, link, &cells, &over)?;
+        let link = write_link(text, pen, row, &above, wrapped_above, &cells, &over)?;
+        wrapped_above = write_row(text, pen, below, link, &cells, &over)?;
         above = cells;
         row = below;
     }

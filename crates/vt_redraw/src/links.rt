@@ -26,7 +26,7 @@ use vt_cells::{Cell, Pos, Sink, cell};
 #[derive(Clone, Copy, Debug)]
 pub struct Link {
     /// Whether the lower of the two linked rows is itself wrapped on the terminal.
-    pub flag: bool,
+    pub wrapped: bool,
 
     /// The number of leading cells of the lower of the two linked rows that the link has already
     /// written.
@@ -82,14 +82,14 @@ fn write_first_blank<S: Sink>(
     sink: &mut S,
     pen: &mut Pen,
     row: u16,
-    flag: bool,
+    wrapped: bool,
     cell: &Cell,
     over: &PictureRow<'_>,
 ) -> Result<Link, S::Error>
     requires over { 0 < length over.now.cells }
     requires blank { is_blank cell.now ≡ true }
     ensures { LinksOrStops result (S.text sink.old) (S.text sink.new) pen.new
-        (first_written row pen.old flag (cell.now ∷ []) over.now.cells) }
+        (first_written row pen.old wrapped (cell.now ∷ []) over.now.cells) }
 {
     pen.change_attrs(sink, cell::attrs(cell))?;
     sink.write_str(" ")?;
@@ -99,17 +99,17 @@ fn write_first_blank<S: Sink>(
     pen.col = 0;
     pen.is_shifted = false;
     Ok(Link {
-        flag: is_wrapped(flag, over),
+        wrapped: is_wrapped(wrapped, over),
         settled: 1,
     })
 }
 
 /// Returns whether the terminal's row is still wrapped after its first cell has been erased.
 /// Erasing the only cell of a row clears the row's wrapped flag.
-fn is_wrapped(flag: bool, over: &PictureRow<'_>) -> bool
-    ensures { result ≡ (flag && not (nat_le (length over.now.cells) 1)) }
+fn is_wrapped(wrapped: bool, over: &PictureRow<'_>) -> bool
+    ensures { result ≡ (wrapped && not (nat_le (length over.now.cells) 1)) }
 {
-    flag && !(over.cols() <= 1)
+    wrapped && !(over.cols() <= 1)
 }
 
 /// Prints the text of a glyph in the first column of row `row`, while a wrap is pending in the row
@@ -133,14 +133,14 @@ fn write_first_glyph<S: Sink>(
     sink: &mut S,
     pen: &mut Pen,
     row: u16,
-    flag: bool,
+    wrapped: bool,
     cell: &Cell,
     over: &PictureRow<'_>,
 ) -> Result<Link, S::Error>
     requires over { 0 < length over.now.cells }
     requires glyph { is_glyph cell.now ≡ true }
     ensures { LinksOrStops result (S.text sink.old) (S.text sink.new) pen.new
-        (first_written row pen.old flag (cell.now ∷ []) over.now.cells) }
+        (first_written row pen.old wrapped (cell.now ∷ []) over.now.cells) }
 {
     pen.change_attrs(sink, cell::attrs(cell))?;
     write_wrapping(sink, pen, row, cell.contents())?;
@@ -149,14 +149,14 @@ fn write_first_glyph<S: Sink>(
     pen.col = settled;
     pen.is_shifted = shifts(pen.form, cell);
     Ok(Link {
-        flag: wrapped_after_glyph(flag, cell.is_wide(), over, settled),
+        wrapped: wrapped_after_glyph(wrapped, cell.is_wide(), over, settled),
         settled,
     })
 }
 
 /// Writes the first cell of a row while a wrap is pending in the row above, which makes the
 /// terminal wrap into the row. Returns the state of the row afterward. `cells` is the row of the
-/// picture, and `over` is the row that the terminal displays; `flag` is true if the latter is
+/// picture, and `over` is the row that the terminal displays; `wrapped` is true if the latter is
 /// wrapped.
 ///
 /// # Errors
@@ -166,22 +166,22 @@ pub fn write_first<S: Sink>(
     sink: &mut S,
     pen: &mut Pen,
     row: u16,
-    flag: bool,
+    wrapped: bool,
     cells: &PictureRow<'_>,
     over: &PictureRow<'_>,
 ) -> Result<Link, S::Error>
     requires { IsRowOver cells.now.cells over.now.cells }
     ensures { LinksOrStops result (S.text sink.old) (S.text sink.new) pen.new
-        (first_written row pen.old flag cells.now.cells over.now.cells) }
+        (first_written row pen.old wrapped cells.now.cells over.now.cells) }
 {
     let cell = cells.cell(0);
     if cell::is_blank(cell) {
         // Only for the proof: the prover finds the clause about a value in tail position.
-        let link = write_first_blank(sink, pen, row, flag, cell, over)?;
+        let link = write_first_blank(sink, pen, row, wrapped, cell, over)?;
         return Ok(link);
     }
     // Only for the proof: the prover finds the clause about a value in tail position.
-    let link = write_first_glyph(sink, pen, row, flag, cell, over)?;
+    let link = write_first_glyph(sink, pen, row, wrapped, cell, over)?;
     Ok(link)
 }
 
@@ -198,29 +198,29 @@ fn starts_other(cells: &PictureRow<'_>, over: &PictureRow<'_>) -> bool
 
 /// Returns whether a link, that is, output that makes the terminal wrap, is needed between the
 /// picture's row `above`, which is wrapped, and the row `cells` below it. A link is needed if the
-/// terminal's upper row is not wrapped (`on` is false). It is also needed if a wrap is pending at
-/// the end of that row and `cells` begins with a glyph that the terminal's lower row, `over`, does
-/// not begin with.
+/// terminal's upper row is not wrapped (`wrapped_above` is false). It is also needed if a wrap is
+/// pending at the end of that row and `cells` begins with a glyph that the terminal's lower row,
+/// `over`, does not begin with.
 fn needs_link(
     pen: &Pen,
     row: u16,
     above: &PictureRow<'_>,
-    on: bool,
+    wrapped_above: bool,
     cells: &PictureRow<'_>,
     over: &PictureRow<'_>,
 ) -> bool
     requires nonempty { 0 < length cells.now.cells }
     requires over { 0 < length over.now.cells }
     ensures { result
-        ≡ (not on || (is_at pen.now row (length above.now.cells) && starts_other cells.now.cells over.now.cells)) }
+        ≡ (not wrapped_above || (is_at pen.now row (length above.now.cells) && starts_other cells.now.cells over.now.cells)) }
 {
-    !on || (pen.is_at(row, above.cols()) && starts_other(cells, over))
+    !wrapped_above || (pen.is_at(row, above.cols()) && starts_other(cells, over))
 }
 
 /// Writes the link between row `row` and the next row, if the picture's row `row` is wrapped and a
 /// link is needed. The link makes the terminal wrap into the next row. Returns the state of the
 /// next row afterward. `above` and `cells` are the picture's upper and lower row, and `over` is the
-/// terminal's lower row. `on` is true if the terminal's upper row is already wrapped.
+/// terminal's lower row. `wrapped_above` is true if the terminal's upper row is already wrapped.
 ///
 /// # Errors
 ///
@@ -231,31 +231,37 @@ pub fn write_link<S: Sink>(
     pen: &mut Pen,
     row: u16,
     above: &PictureRow<'_>,
-    on: bool,
+    wrapped_above: bool,
     cells: &PictureRow<'_>,
     over: &PictureRow<'_>,
 ) -> Result<Link, S::Error>
     requires { IsRowUnder row above.now.cells cells.now.cells over.now.cells }
     ensures { LinksOrStops result (S.text sink.old) (S.text sink.new) pen.new
-        (link_of row pen.old above.now on cells.now over.now) }
+        (link_of row pen.old above.now wrapped_above cells.now over.now) }
 {
-    let flag = over.wrapped();
+    let wrapped = over.wrapped();
     if !above.wrapped() {
-        return Ok(Link { flag, settled: 0 });
+        return Ok(Link {
+            wrapped,
+            settled: 0,
+        });
     }
-    if !needs_link(pen, row, above, on, cells, over) {
-        return Ok(Link { flag, settled: 0 });
+    if !needs_link(pen, row, above, wrapped_above, cells, over) {
+        return Ok(Link {
+            wrapped,
+            settled: 0,
+        });
     }
     write_last(sink, pen, row, above)?;
     // Only for the proof: the prover finds the clause about a value in tail position.
-    let link = write_first(sink, pen, row + 1, flag, cells, over)?;
+    let link = write_first(sink, pen, row + 1, wrapped, cells, over)?;
     Ok(link)
 }
 
 /// Writes the row break, that is, the output that erases the last glyph of a row and prints it
 /// again, so that the terminal's row is no longer wrapped. Writes nothing unless the terminal's row
-/// is wrapped (`flag` is true) and the picture's row `cells` is not. Returns whether the terminal's
-/// row is wrapped afterward.
+/// is wrapped (`wrapped` is true) and the picture's row `cells` is not. Returns whether the
+/// terminal's row is wrapped afterward.
 ///
 /// # Errors
 ///
@@ -265,20 +271,20 @@ pub fn write_break<S: Sink>(
     sink: &mut S,
     pen: &mut Pen,
     row: u16,
-    flag: bool,
+    wrapped: bool,
     cells: &PictureRow<'_>,
 ) -> Result<bool, S::Error>
     requires nonempty { 0 < length cells.now.cells }
     requires paired { IsPaired cells.now.cells }
-    ensures writes { IfOk result (λ on. Writes (S.text sink.old) (S.text sink.new)
-        pen.new on (break_of row pen.old flag cells.now)) }
-    ensures nonempty { RefusedOnlyIfSome result (bytes_of_all (break_of row pen.old flag cells.now).ops) }
+    ensures writes { IfOk result (λ is_wrapped. Writes (S.text sink.old) (S.text sink.new)
+        pen.new is_wrapped (break_of row pen.old wrapped cells.now)) }
+    ensures nonempty { RefusedOnlyIfSome result (bytes_of_all (break_of row pen.old wrapped cells.now).ops) }
 {
-    if !flag {
-        return Ok(flag);
+    if !wrapped {
+        return Ok(wrapped);
     }
     if cells.wrapped() {
-        return Ok(flag);
+        return Ok(wrapped);
     }
     let col = cells.last_col();
     let cell = cells.cell(col);

@@ -84,7 +84,7 @@ impl<'a> PictureRow<'a> {
         requires nonempty { 0 < cols }
         requires paired { IsPaired cells.now }
         ensures cells { result.cells ≡ cells_after_resize cols cells.now }
-        ensures flag { result.wrapped ≡ false }
+        ensures wrapped { result.wrapped ≡ false }
     {
         let kept = kept_cells(cells, cols);
         let end = end_cell(cells, cols);
@@ -102,7 +102,7 @@ impl<'a> PictureRow<'a> {
     pub fn up_to(&self, stop: u16) -> PictureRow<'_>
         requires { stop ≤ length self.now.cells }
         ensures cells { result.cells ≡ take stop self.now.cells }
-        ensures flag { result.wrapped ≡ self.now.wrapped }
+        ensures wrapped { result.wrapped ≡ self.now.wrapped }
     {
         let kept = self.cells.len().min(usize::from(stop));
         PictureRow {

@@ -36,20 +36,20 @@ pub(crate) fn write_row<S: Sink>(
     over: &PictureRow<'_>,
 ) -> Result<bool, S::Error>
     requires { IsRowOver cells.now.cells over.now.cells }
-    ensures writes { IfOk result (λ on. Writes (S.text sink.old) (S.text sink.new) pen.new on
+    ensures writes { IfOk result (λ is_wrapped. Writes (S.text sink.old) (S.text sink.new) pen.new is_wrapped
         (row_behind row link pen.old cells.now over.now)) }
     ensures nonempty { RefusedOnlyIfSome result (bytes_of_all (row_behind row link pen.old cells.now over.now).ops) }
 {
-    let mut flag = link.flag;
+    let mut wrapped = link.wrapped;
     let pos = Pos {
         row,
         col: link.settled,
     };
-    write_cells(sink, pen, &mut flag, pos, cells, over)?;
+    write_cells(sink, pen, &mut wrapped, pos, cells, over)?;
     // Only for the proof: the prover finds the clause about a value in tail
     // position.
-    let on = write_break(sink, pen, row, flag, cells)?;
-    Ok(on)
+    let is_wrapped = write_break(sink, pen, row, wrapped, cells)?;
+    Ok(is_wrapped)
 }
 
 /// Writes the sequences that turn the terminal's first row, `over`, into the picture's first row,
@@ -61,19 +61,19 @@ pub(crate) fn write_top<S: Sink>(
     over: &PictureRow<'_>,
 ) -> Result<bool, S::Error>
     requires { IsRowOver cells.now.cells over.now.cells }
-    ensures writes { IfOk result (λ on. Writes (S.text sink.old) (S.text sink.new) pen.new on
+    ensures writes { IfOk result (λ is_wrapped. Writes (S.text sink.old) (S.text sink.new) pen.new is_wrapped
         (row_written 0 0 pen.old over.now.wrapped cells.now over.now.cells)) }
     ensures nonempty { RefusedOnlyIfSome result
         (bytes_of_all (row_written 0 0 pen.old over.now.wrapped cells.now over.now.cells).ops) }
 {
     let link = Link {
-        flag: over.wrapped(),
+        wrapped: over.wrapped(),
         settled: 0,
     };
     // Only for the proof: the prover finds the clause about a value in tail
     // position.
-    let on = write_row(sink, pen, 0, link, cells, over)?;
-    Ok(on)
+    let is_wrapped = write_row(sink, pen, 0, link, cells, over)?;
+    Ok(is_wrapped)
 }
 
 /// Writes the sequences that turn the rows of `prev`, which the terminal displays, into the rows of
@@ -92,15 +92,15 @@ fn write_rows<S: Sink, W: RowWatch<S>>(
 {
     let last = view.rows() - 1;
     let mut above = view.row(0);
-    let mut on = write_top(sink, pen, &above, &prev.row(0))?;
+    let mut wrapped_above = write_top(sink, pen, &above, &prev.row(0))?;
     watch.finish_row(0, sink);
     let mut row = 0;
     while row < last {
         let below = row + 1;
         let cells = view.row(below);
         let over = prev.row(below);
-        let link = write_link(sink, pen, row, &above, on, &cells, &over)?;
-        on = write_row(sink, pen, below, link, &cells, &over)?;
+        let link = write_link(sink, pen, row, &above, wrapped_above, &cells, &over)?;
+        wrapped_above = write_row(sink, pen, below, link, &cells, &over)?;
         watch.finish_row(below, sink);
         above = cells;
         row = below;

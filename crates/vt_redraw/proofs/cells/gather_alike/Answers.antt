@@ -20,7 +20,7 @@ loop-own-preserved c =
     let others = c.own_cells-others.result.now in
     let like = c.args.like.now in
     let pen = c.args.pen.now in
-    let flag = c.args.flag in
+    let wrapped = c.args.wrapped in
     let columns : 1 ≡ glyph_columns (is_wide like) = ap glyph_columns (sym c.requires.narrow) in
     let next = l.col + 1 in
     let alike = c.is_alike.ensures c.if-is_alike.true in
@@ -32,24 +32,24 @@ loop-own-preserved c =
     read_at own _ _ _ c.index-own-from.is from (omega (arith, from, here)) in
     let pushed : c.push_one.new.self ≡ l.buffer ++ text_of (at own l.col) =
     c.push_one.ensures ∙ ap (λ (more : List ℕ). l.buffer ++ more) (c.contents.ensures.value ∙ ap text_of (sym x)) in
-    let flags = narrow_keeps flag (is_wide like) (drop next ys) c.requires.narrow in
+    let flags = narrow_keeps wrapped (is_wide like) (drop next ys) c.requires.narrow in
     let order = l.invariant.order in
     record {
       leads =
           λ before. leads_then (buffered_text before c.args.buffer.now) (buffered_text before l.buffer)
           (buffered_text before c.push_one.new.self)
-          (cells_from pen.row pen.col pen flag xs ys)
-          (cells_from pen.row l.col (record pen { col = l.col }) flag xs ys)
-          (cells_from pen.row next (record pen { col = next }) flag xs ys) (l.invariant.leads before)
+          (cells_from pen.row pen.col pen wrapped xs ys)
+          (cells_from pen.row l.col (record pen { col = l.col }) wrapped xs ys)
+          (cells_from pen.row next (record pen { col = next }) wrapped xs ys) (l.invariant.leads before)
           (subst (λ (b : Bool). Leads (buffered_text before c.push_one.new.self)
-          (cells_from pen.row next (record pen { col = next; is_shifted = b }) flag xs ys) (buffered_text before
+          (cells_from pen.row next (record pen { col = next; is_shifted = b }) wrapped xs ys) (buffered_text before
           l.buffer)
-          (cells_from pen.row l.col (record pen { col = l.col; is_shifted = b }) flag xs ys)) (sym c.requires.placed)
-          (subst (λ (p : Pen). Leads (buffered_text before c.push_one.new.self) (cells_from pen.row next p flag xs ys)
-          (buffered_text before l.buffer)
-          (cells_from pen.row l.col (pen_in pen.form pen.row l.col pen.attrs) flag xs ys))
+          (cells_from pen.row l.col (record pen { col = l.col; is_shifted = b }) wrapped xs ys)) (sym c.requires.placed)
+          (subst (λ (p : Pen). Leads (buffered_text before c.push_one.new.self)
+          (cells_from pen.row next p wrapped xs ys) (buffered_text before l.buffer)
+          (cells_from pen.row l.col (pen_in pen.form pen.row l.col pen.attrs) wrapped xs ys))
           (short_past pen.form pen.row next pen.attrs (text_of (at own l.col)) one)
-          (alike_leads pen.form pen.row l.col 1 pen.attrs flag flag like own others xs ys before l.buffer
+          (alike_leads pen.form pen.row l.col 1 pen.attrs wrapped wrapped like own others xs ys before l.buffer
           c.push_one.new.self alike
           text c.requires.attrs c.own_cells-own.ensures.first c.own_cells-own.ensures.inside
           c.own_cells-others.ensures.first c.own_cells-others.ensures.blank c.requires.range.inside

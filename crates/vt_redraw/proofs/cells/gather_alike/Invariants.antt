@@ -7,9 +7,9 @@ use Rattle.vt_redraw.proofs.cells.gather_alike.Given as goal
 abbrev pub invariant-loop-own : goal.invariant-loop-own
 invariant-loop-own l = record {
   leads : (text : List ℕ) → Leads (buffered_text text l.buffer)
-      (cells_from l.pen.row l.col (record l.pen { col = l.col }) l.flag l.cells.cells l.over.cells)
+      (cells_from l.pen.row l.col (record l.pen { col = l.col }) l.wrapped l.cells.cells l.over.cells)
       (buffered_text text l.fn.buffer)
-      (cells_from l.pen.row l.pen.col l.pen l.flag l.cells.cells l.over.cells);
+      (cells_from l.pen.row l.pen.col l.pen l.wrapped l.cells.cells l.over.cells);
   order : l.pen.col ≤ l.col;
   inside : l.col ≤ length l.over.cells;
 }

@@ -19,7 +19,7 @@ loop-is_shifted-preserved c =
     let like = c.args.like.now in
     let pen = c.args.pen.now in
     let n = c.columns-count.result in
-    let on = c.wrapped_after_glyph-on.result in
+    let is_wrapped = c.wrapped_after_glyph-is_wrapped.result in
     let next = l.col + n in
     let alike = c.is_alike.ensures c.if-is_alike.true in
     let text = glyph_text like c.contents-bytes.ensures.sound c.requires.glyph in
@@ -29,8 +29,9 @@ loop-is_shifted-preserved c =
     read_at own _ _ _ c.index-own-from.is from (omega (arith, from, here)) in
     let pushed : c.push.new.self ≡ l.buffer ++ text_of (at own l.col) =
     c.push.ensures ∙ ap (λ (more : List ℕ). l.buffer ++ more) (c.contents.ensures.value ∙ ap text_of (sym x)) in
-    let flags : on ≡ wrapped_after_glyph l.on _ (drop next ys) =
-    c.wrapped_after_glyph-on.ensures ∙ ap (λ w. wrapped_after_glyph l.on w (drop next ys)) c.is_wide-wide.ensures in
+    let flags : is_wrapped ≡ wrapped_after_glyph l.is_wrapped _ (drop next ys) =
+    c.wrapped_after_glyph-is_wrapped.ensures ∙ ap (λ w. wrapped_after_glyph l.is_wrapped w (drop next ys))
+    c.is_wide-wide.ensures in
     let shifted = c.shifts-is_shifted.result in
     let after : shifted ≡ shifts pen.form (text_of (at own l.col)) =
     c.shifts-is_shifted.ensures ∙ ap (λ cell. shifts c.args.form (text_of cell)) (sym x)
@@ -42,24 +43,27 @@ loop-is_shifted-preserved c =
       leads =
           λ before. leads_then (buffered_text before c.args.buffer.now) (buffered_text before l.buffer)
           (buffered_text before c.push.new.self)
-          (cells_from pen.row pen.col pen c.args.flag.now xs ys)
+          (cells_from pen.row pen.col pen c.args.wrapped.now xs ys)
           (cells_from pen.row l.col (record (pen_in pen.form pen.row l.col pen.attrs) { is_shifted = l.is_shifted })
-          l.on xs ys)
-          (cells_from pen.row next (record (pen_in pen.form pen.row next pen.attrs) { is_shifted = shifted }) on xs ys)
+          l.is_wrapped xs ys)
+          (cells_from pen.row next (record (pen_in pen.form pen.row next pen.attrs) { is_shifted = shifted })
+          is_wrapped xs ys)
           (l.invariant.leads before)
           (subst (λ (b : Bool). Leads (buffered_text before c.push.new.self)
-          (cells_from pen.row next (record (pen_in pen.form pen.row next pen.attrs) { is_shifted = b }) on xs ys)
+          (cells_from pen.row next (record (pen_in pen.form pen.row next pen.attrs) { is_shifted = b })
+          is_wrapped xs ys)
           (buffered_text before l.buffer)
           (cells_from pen.row l.col (record (pen_in pen.form pen.row l.col pen.attrs) { is_shifted = l.is_shifted })
-          l.on xs ys))
+          l.is_wrapped xs ys))
           (sym after)
           (subst (λ (b : Bool). Leads (buffered_text before c.push.new.self)
-          (cells_from pen.row next (pen_past pen.form pen.row next pen.attrs (text_of (at own l.col))) on xs ys)
+          (cells_from pen.row next (pen_past pen.form pen.row next pen.attrs (text_of (at own l.col))) is_wrapped xs ys)
           (buffered_text before l.buffer)
-          (cells_from pen.row l.col (record (pen_in pen.form pen.row l.col pen.attrs) { is_shifted = b }) l.on xs ys))
+          (cells_from pen.row l.col (record (pen_in pen.form pen.row l.col pen.attrs) { is_shifted = b })
+          l.is_wrapped xs ys))
           (sym still)
-          (alike_leads pen.form pen.row l.col n pen.attrs l.on on like own others xs ys before l.buffer c.push.new.self
-          alike
+          (alike_leads pen.form pen.row l.col n pen.attrs l.is_wrapped is_wrapped like own others xs ys before l.buffer
+          c.push.new.self alike
           text c.requires.attrs c.own_cells-own.ensures.first c.own_cells-own.ensures.inside
           c.own_cells-others.ensures.first c.own_cells-others.ensures.blank c.requires.range.inside
           c.columns-count.ensures pushed flags)));

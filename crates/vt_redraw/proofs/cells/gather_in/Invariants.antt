@@ -10,9 +10,9 @@ invariant-loop-is_shifted l = record {
   leads : (text : List ℕ) → Leads (buffered_text text l.buffer)
       (cells_from l.pen.row l.col (record (pen_in l.pen.form l.pen.row l.col l.pen.attrs) {
         is_shifted = l.is_shifted;
-      }) l.on l.cells.cells l.over.cells)
+      }) l.is_wrapped l.cells.cells l.over.cells)
       (buffered_text text l.fn.buffer)
-      (cells_from l.pen.row l.pen.col l.pen l.flag l.cells.cells l.over.cells);
+      (cells_from l.pen.row l.pen.col l.pen l.wrapped l.cells.cells l.over.cells);
   order : l.pen.col ≤ l.col;
   inside : l.col ≤ length l.over.cells;
 }

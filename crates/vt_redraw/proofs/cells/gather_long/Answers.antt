@@ -28,7 +28,8 @@ returns-in_err-gather_glyph g c =
           (buffer_some c.args.buffer.now bytes _
           (start_some bytes _ _
           (glyph_leads row col n c.args.pen.now (pen_past c.args.pen.now.form row (col + n) (attrs_of x) (text_of x))
-          c.args.flag.now (wrapped_after_glyph c.args.flag.now (is_wide x) (drop (col + n) ys)) c.args.cells.now.cells ys x []
+          c.args.wrapped.now (wrapped_after_glyph c.args.wrapped.now (is_wide x) (drop (col + n) ys))
+          c.args.cells.now.cells ys x []
           bytes c.cell-cell.ensures c.requires.other.inside c.requires.other.range.inside c.requires.other.other
           (ap is_blank c.cell-cell.ensures ∙ c.requires.glyph) refl refl refl refl))
           c.in_err-gather_glyph.ensures.gathers.nonempty);
@@ -53,16 +54,16 @@ returns g c =
     let order = c.gather_more.ensures.order in
     let inside = c.gather_more.ensures.inside in
     let some = some_columns (is_wide x) in
-    let flag = c.wrapped_after_glyph.result in
-    let flags : flag ≡ wrapped_after_glyph c.args.flag.now (is_wide x) (drop (col + n) ys) =
+    let wrapped = c.wrapped_after_glyph.result in
+    let flags : wrapped ≡ wrapped_after_glyph c.args.wrapped.now (is_wide x) (drop (col + n) ys) =
     c.wrapped_after_glyph.ensures
-    ∙ (ap (λ w. wrapped_after_glyph c.args.flag.now w (drop pen.col ys)) c.is_wide.ensures
-    ∙ ap (λ k. wrapped_after_glyph c.args.flag.now (is_wide x) (drop k ys)) columns) in
+    ∙ (ap (λ w. wrapped_after_glyph c.args.wrapped.now w (drop pen.col ys)) c.is_wide.ensures
+    ∙ ap (λ k. wrapped_after_glyph c.args.wrapped.now (is_wide x) (drop k ys)) columns) in
     record {
       leads =
-          alike_settles row col n _ _ c.gather_more.new.pen.col pen c.gather_more.new.pen flag
-          c.gather_more.new.flag xs ys _ _ _ _
-          (glyph_leads row col n c.args.pen.now pen c.args.flag.now flag xs ys x
+          alike_settles row col n _ _ c.gather_more.new.pen.col pen c.gather_more.new.pen wrapped
+          c.gather_more.new.wrapped xs ys _ _ _ _
+          (glyph_leads row col n c.args.pen.now pen c.args.wrapped.now wrapped xs ys x
           (buffered_text (text c.args.sink.now) c.args.buffer.now)
           (buffered_text (text c.gather_glyph.new.sink) c.gather_glyph.new.buffer) c.cell-cell.ensures
           c.requires.other.inside c.requires.other.range.inside c.requires.other.other

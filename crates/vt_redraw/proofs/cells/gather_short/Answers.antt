@@ -28,7 +28,8 @@ returns-in_err-gather_byte g c =
           (buffer_some c.args.buffer.now bytes _
           (start_some bytes _ _
           (glyph_leads row col n c.args.pen.now (pen_past c.args.pen.now.form row (col + n) (attrs_of x) (text_of x))
-          c.args.flag (wrapped_after_glyph c.args.flag (is_wide x) (drop (col + n) ys)) c.args.cells.now.cells ys x []
+          c.args.wrapped (wrapped_after_glyph c.args.wrapped (is_wide x) (drop (col + n) ys))
+          c.args.cells.now.cells ys x []
           bytes c.requires.cell c.requires.other.inside c.requires.other.range.inside c.requires.other.other
           c.requires.glyph refl refl refl refl))
           c.in_err-gather_byte.ensures.gathers.nonempty);
@@ -47,15 +48,15 @@ returns g c =
     let columns : pen.col ≡ col + 1 = ap (λ p. p.col) pens in
     let order = c.gather_alike.ensures.order in
     let inside = c.gather_alike.ensures.inside in
-    let flag = c.args.flag in
+    let wrapped = c.args.wrapped in
     let narrow = c.requires.narrow in
     let count : 1 ≡ glyph_columns (is_wide x) = ap glyph_columns (sym narrow) in
-    let flags = narrow_keeps flag (is_wide x) (drop (col + 1) ys) narrow in
+    let flags = narrow_keeps wrapped (is_wide x) (drop (col + 1) ys) narrow in
     record {
       leads =
-          alike_settles row col 1 _ _ c.gather_alike.new.pen.col pen c.gather_alike.new.pen flag
-          flag xs ys _ _ _ _
-          (glyph_leads row col 1 c.args.pen.now pen flag flag xs ys x
+          alike_settles row col 1 _ _ c.gather_alike.new.pen.col pen c.gather_alike.new.pen wrapped
+          wrapped xs ys _ _ _ _
+          (glyph_leads row col 1 c.args.pen.now pen wrapped wrapped xs ys x
           (buffered_text (text c.args.sink.now) c.args.buffer.now)
           (buffered_text (text c.gather_byte.new.sink) c.gather_byte.new.buffer) c.requires.cell
           c.requires.other.inside c.requires.other.range.inside c.requires.other.other

@@ -10,17 +10,17 @@ returns-then-first-cols-clause-writes g c =
     let row = c.args.pos.row in
     let first = c.next_other-first.result in
     let pen = c.args.pen.now in
-    let flag = c.args.flag.now in
+    let wrapped = c.args.wrapped.now in
     let xs = c.args.cells.now.cells in
     let ys = c.args.over.now.cells in
     let text = g.S.Sink.text c.args.sink.now in
     let size = c.cols.ensures in
     let past = c.if-first-cols.true in
-    let none : cells_from row c.args.pos.col pen flag xs ys ≡ no_ops pen flag =
-    c.next_other-first.ensures.passed.same row pen flag
-    ∙ cells_end row first pen flag xs ys (omega (arith, size, past)) in
+    let none : cells_from row c.args.pos.col pen wrapped xs ys ≡ no_ops pen wrapped =
+    c.next_other-first.ensures.passed.same row pen wrapped
+    ∙ cells_end row first pen wrapped xs ys (omega (arith, size, past)) in
     record {
       bytes = sym (append-nil text) ∙ ap (λ (w : Scripted). text ++ bytes_of_all w.ops) (sym none);
       stands = ap (λ (w : Scripted). w.pen) (sym none);
-      is_wrapped = ap (λ (w : Scripted). w.flag) (sym none);
+      is_wrapped = ap (λ (w : Scripted). w.wrapped) (sym none);
     }

@@ -16,7 +16,8 @@ returns g c =
     record {
       leads =
           next_run c.args.pos.row c.args.pos.col c.run-count.result c.args.pen.now c.gather_run.new.pen
-          c.args.flag.now c.wrapped_after_erasure.result c.args.cells.now.cells c.args.over.now.cells c.attrs-attrs.result
+          c.args.wrapped.now c.wrapped_after_erasure.result c.args.cells.now.cells c.args.over.now.cells
+          c.attrs-attrs.result
           (buffered_text (text c.args.sink.now) c.args.buffer.now)
           (buffered_text (text c.gather_run.new.sink) c.gather_run.new.buffer) c.requires.other.inside c.requires.other.range.inside
           c.requires.other.other blank same c.run-count.ensures.value c.in_ok-gather_run.ensures.gathers.text
@@ -46,8 +47,9 @@ returns-in_err-gather_run g c =
           on_err c.from_residual.result
           (buffer_some c.args.buffer.now bytes _
           (start_some bytes _ _
-          (next_run row col n c.args.pen.now (pen_in c.args.pen.now.form row col attrs) c.args.flag.now
-          (wrapped_after_erasure c.args.flag.now (drop (col + n) ys)) c.args.cells.now.cells ys attrs [] bytes c.requires.other.inside
+          (next_run row col n c.args.pen.now (pen_in c.args.pen.now.form row col attrs) c.args.wrapped.now
+          (wrapped_after_erasure c.args.wrapped.now (drop (col + n) ys)) c.args.cells.now.cells ys attrs [] bytes
+          c.requires.other.inside
           c.requires.other.range.inside c.requires.other.other
           (ap is_blank (sym c.requires.cell) ∙ (sym c.is_blank.ensures ∙ c.if-not-is_blank.false))
           (c.attrs-attrs.ensures ∙ ap attrs_of c.requires.cell) c.run-count.ensures.value refl refl refl))

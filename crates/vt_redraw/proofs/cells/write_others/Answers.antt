@@ -16,9 +16,9 @@ loop-col-preserved-then-stands_at g c =
     let row = c.args.pos.row in
     let now = buffered_text (text l.sink) l.buffer in
     let next = c.next_other-col.result in (
-      leads_then (text c.args.sink.now) now now (cells_from row c.args.pos.col c.args.pen.now c.args.flag.now xs ys)
-          (cells_from row l.col l.pen l.flag xs ys) (cells_from row next l.pen l.flag xs ys)
-          l.invariant.0 (passes_leads l.col next row l.pen l.flag xs ys now
+      leads_then (text c.args.sink.now) now now (cells_from row c.args.pos.col c.args.pen.now c.args.wrapped.now xs ys)
+          (cells_from row l.col l.pen l.wrapped xs ys) (cells_from row next l.pen l.wrapped xs ys)
+          l.invariant.0 (passes_leads l.col next row l.pen l.wrapped xs ys now
           (passes_then l.col (l.col + 1) next xs ys
           (passes_cell l.col xs ys (search rules) c.requires.range (search rules)) c.next_other-col.ensures.passed)),
       l.invariant.1,
@@ -36,15 +36,15 @@ returns-clause-writes g c =
     let less = c.min-cols.ensures in
     let inside = c.requires.range.inside in
     let past = c.loop-col-test.false in
-    let none = cells_end row l.col l.pen l.flag xs ys (omega arith) in
+    let none = cells_end row l.col l.pen l.wrapped xs ys (omega arith) in
     record {
       bytes =
           c.in_ok-flush.ensures.text
           ∙ leads_text (buffered_text (text l.sink) l.buffer) (text c.args.sink.now)
-          (cells_from row l.col l.pen l.flag xs ys)
-          (cells_from row c.args.pos.col c.args.pen.now c.args.flag.now xs ys) l.pen l.flag none l.invariant.0;
+          (cells_from row l.col l.pen l.wrapped xs ys)
+          (cells_from row c.args.pos.col c.args.pen.now c.args.wrapped.now xs ys) l.pen l.wrapped none l.invariant.0;
       stands = ap (λ w. w.pen) (sym none) ∙ l.invariant.0.pen;
-      is_wrapped = ap (λ w. w.flag) (sym none) ∙ l.invariant.0.flag;
+      is_wrapped = ap (λ w. w.wrapped) (sym none) ∙ l.invariant.0.wrapped;
     }
 
 pub returns-in_err-col-clause-nonempty : goal.returns-in_err-col-clause-nonempty

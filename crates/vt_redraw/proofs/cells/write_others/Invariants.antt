@@ -6,8 +6,8 @@ use Rattle.vt_redraw.proofs.cells.write_others.Given as goal
 abbrev pub invariant-loop-col : goal.invariant-loop-col
 invariant-loop-col g l =
     Leads (buffered_text (g.S.Sink.text l.sink) l.buffer)
-    (cells_from l.pos.row l.col l.pen l.flag l.cells.cells l.over.cells) (g.S.Sink.text l.initial.sink)
-    (cells_from l.pos.row l.pos.col l.initial.pen l.initial.flag l.cells.cells l.over.cells)
+    (cells_from l.pos.row l.col l.pen l.wrapped l.cells.cells l.over.cells) (g.S.Sink.text l.initial.sink)
+    (cells_from l.pos.row l.pos.col l.initial.pen l.initial.wrapped l.cells.cells l.over.cells)
     × (length (g.S.Sink.text l.initial.sink) ≤ length (g.S.Sink.text l.sink))
 
 abbrev pub decreases-loop-col : goal.decreases-loop-col

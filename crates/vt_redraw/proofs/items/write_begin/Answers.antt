@@ -21,7 +21,7 @@ returns-then-is_wide_continuation-clause-leads g c =
     let before = c.if-col-min.false in
     record {
       leads =
-          half_stands c.args.pos.row col c.args.pen.now c.args.flag.now xs ys
+          half_stands c.args.pos.row col c.args.pen.now c.args.wrapped.now xs ys
           (g.S.Sink.text c.args.sink.now) (omega arith) c.requires.range.inside
           (ap is_right_half (sym c.cell.ensures)
           ∙ (sym c.is_wide_continuation.ensures ∙ c.if-not-is_wide_continuation.false))
@@ -43,7 +43,8 @@ returns-clause-leads g c =
     let n = c.run-count.result in
     record {
       leads =
-          half_erased c.args.pos.row col n (n + 1) c.args.pen.now c.write_run.new.pen c.args.flag.now c.wrapped_after_erasure.result
+          half_erased c.args.pos.row col n (n + 1) c.args.pen.now c.write_run.new.pen c.args.wrapped.now
+          c.wrapped_after_erasure.result
           xs ys (text c.args.sink.now) (text c.write_run.new.sink) (omega arith) c.requires.range.inside
           (ap is_right_half (sym c.cell.ensures)
           ∙ (sym c.is_wide_continuation.ensures ∙ c.if-not-is_wide_continuation.false))
@@ -74,8 +75,8 @@ returns-in_err-write_run-clause-nonempty g c =
     bytes_of_all (placed_op c.args.pen.now row col a (erase_run c.args.pen.now.form (n + 1) (drop (col + (n + 1)) ys))) in
     on_err c.from_residual.result
     (start_some (bytes default_attrs) _ _
-    (half_erased row col n (n + 1) c.args.pen.now (pen_in c.args.pen.now.form row col default_attrs) c.args.flag.now
-    (wrapped_after_erasure c.args.flag.now (drop (col + (n + 1)) ys)) xs ys [] (bytes default_attrs) (omega arith)
+    (half_erased row col n (n + 1) c.args.pen.now (pen_in c.args.pen.now.form row col default_attrs) c.args.wrapped.now
+    (wrapped_after_erasure c.args.wrapped.now (drop (col + (n + 1)) ys)) xs ys [] (bytes default_attrs) (omega arith)
     c.requires.range.inside
     (ap is_right_half (sym c.cell.ensures) ∙ (sym c.is_wide_continuation.ensures ∙ c.if-not-is_wide_continuation.false))
     (ap is_right_half (sym c.cell-2.ensures) ∙ (sym c.is_wide_continuation-2.ensures ∙ c.if-is_wide_continuation.false))

@@ -21,7 +21,7 @@ returns g c =
     let link = c.in_ok-link.link in
     let xs = c.args.cells.now.cells in
     let ys = c.blank-over.result.cells in
-    let rest = cells_from r link.settled c.write_first.new.pen link.flag xs ys in
+    let rest = cells_from r link.settled c.write_first.new.pen link.wrapped xs ys in
     let wrote : (end : List ℕ) → end ≡ mid ++ bytes_of_all rest.ops →
     end ≡ start ++ bytes_of_all (linked_item r xs).ops =
     λ end. linked_wrote r xs ys (pen_at r 0 c.new.result) c.write_first.new.pen link start mid end

@@ -37,13 +37,13 @@ returns-then-not-is_whole-clause-text g c =
     let start = c.args.start in
     let stop = c.args.stop in
     let pen = pen_at r start c.new.result in
-    let flag = c.wrapped-flag.result in
+    let wrapped = c.wrapped-wrapped.result in
     let cut = c.up_to.result.cells in
-    let w = range_over (record { row = r; col = start }) pen flag c.up_to.result y in
+    let w = range_over (record { row = r; col = start }) pen wrapped c.up_to.result y in
     let e : w ≡ range_written r start stop y.wrapped x.cells y.cells =
-    range_wrote r start stop pen flag cut x.cells y.cells c.requires.order
+    range_wrote r start stop pen wrapped cut x.cells y.cells c.requires.order
     c.up_to.ensures.cells (ap (λ (a : Attrs). pen_at r start a) c.new.ensures)
-    ∙ ap (λ b. range_written r start stop b x.cells y.cells) c.wrapped-flag.ensures in
+    ∙ ap (λ b. range_written r start stop b x.cells y.cells) c.wrapped-wrapped.ensures in
     part_item r start stop x y w (text c.args.sink.now) (text c.write_range.new.sink)
     (sym c.is_whole.ensures ∙ c.if-not-is_whole.true) e c.in_ok-write_range.ensures.writes.bytes
     ∙ (ap (λ (z : RowValue). text c.args.sink.now ++ bytes_of_all (item_of_difference r start stop z y).ops)
@@ -61,15 +61,15 @@ returns-clause-text g c =
     let start = c.args.start in
     let stop = c.args.stop in
     let pen = pen_at r start c.new.result in
-    let flag = c.wrapped-flag.result in
+    let wrapped = c.wrapped-wrapped.result in
     let cut = c.up_to.result.cells in
-    let w = range_over (record { row = r; col = start }) pen flag c.up_to.result y in
+    let w = range_over (record { row = r; col = start }) pen wrapped c.up_to.result y in
     let e : w ≡ range_written r start stop y.wrapped x.cells y.cells =
-    range_wrote r start stop pen flag cut x.cells y.cells c.requires.order
+    range_wrote r start stop pen wrapped cut x.cells y.cells c.requires.order
     c.up_to.ensures.cells (ap (λ (a : Attrs). pen_at r start a) c.new.ensures)
-    ∙ ap (λ b. range_written r start stop b x.cells y.cells) c.wrapped-flag.ensures in
+    ∙ ap (λ b. range_written r start stop b x.cells y.cells) c.wrapped-wrapped.ensures in
     on_ok_weaker c.write_end.result
-    (λ more. whole_item r start stop x y w c.write_range.new.pen c.write_range.new.flag (text c.args.sink.now)
+    (λ more. whole_item r start stop x y w c.write_range.new.pen c.write_range.new.wrapped (text c.args.sink.now)
     (text c.write_range.new.sink) (text c.write_end.new.sink) (sym c.is_whole.ensures ∙ c.if-not-is_whole.false) e
     c.in_ok-write_range.ensures.writes.bytes
     c.in_ok-write_range.ensures.writes.stands c.in_ok-write_range.ensures.writes.is_wrapped more
@@ -96,9 +96,9 @@ returns-in_err-write_range-clause-nonempty g c =
     (subst (λ (z : RowValue). 0 < length (bytes_of_all (item_of_difference r start stop z y).ops))
     c.row-cells.ensures.value
     (range_some r start stop x y _
-    (range_wrote r start stop (pen_at r start c.new.result) c.wrapped-flag.result cut x.cells y.cells c.requires.order
-    c.up_to.ensures.cells (ap (λ (a : Attrs). pen_at r start a) c.new.ensures)
-    ∙ ap (λ b. range_written r start stop b x.cells y.cells) c.wrapped-flag.ensures)
+    (range_wrote r start stop (pen_at r start c.new.result) c.wrapped-wrapped.result cut x.cells y.cells
+    c.requires.order c.up_to.ensures.cells (ap (λ (a : Attrs). pen_at r start a) c.new.ensures)
+    ∙ ap (λ b. range_written r start stop b x.cells y.cells) c.wrapped-wrapped.ensures)
     c.in_err-write_range.ensures.nonempty)))
 
 pub returns-clause-nonempty : goal.returns-clause-nonempty
@@ -110,16 +110,16 @@ returns-clause-nonempty g c =
     let start = c.args.start in
     let stop = c.args.stop in
     let pen = pen_at r start c.new.result in
-    let flag = c.wrapped-flag.result in
+    let wrapped = c.wrapped-wrapped.result in
     let cut = c.up_to.result.cells in
     let mid = text c.write_range.new.sink in
-    let broke = row_break r c.write_range.new.pen c.write_range.new.flag x.wrapped x.cells in
-    let more = bytes_of_all (broke.ops ++ mark_of r broke.pen broke.flag x.wrapped x.cells) in
-    let w = range_over (record { row = r; col = start }) pen flag c.up_to.result y in
+    let broke = row_break r c.write_range.new.pen c.write_range.new.wrapped x.wrapped x.cells in
+    let more = bytes_of_all (broke.ops ++ mark_of r broke.pen broke.wrapped x.wrapped x.cells) in
+    let w = range_over (record { row = r; col = start }) pen wrapped c.up_to.result y in
     let e : w ≡ range_written r start stop y.wrapped x.cells y.cells =
-    range_wrote r start stop pen flag cut x.cells y.cells c.requires.order
+    range_wrote r start stop pen wrapped cut x.cells y.cells c.requires.order
     c.up_to.ensures.cells (ap (λ (a : Attrs). pen_at r start a) c.new.ensures)
-    ∙ ap (λ b. range_written r start stop b x.cells y.cells) c.wrapped-flag.ensures in
+    ∙ ap (λ b. range_written r start stop b x.cells y.cells) c.wrapped-wrapped.ensures in
     on_err_weaker c.write_end.result
     (λ some. subst (λ (z : RowValue). 0
     < length (bytes_of_all
@@ -128,7 +128,7 @@ returns-clause-nonempty g c =
     (subst (λ (z : RowValue). 0 < length (bytes_of_all (item_of_difference r start stop z y).ops))
     c.row-cells.ensures.value
     (text_after_some (text c.args.sink.now) (bytes_of_all w.ops) mid more _ c.in_ok-write_range.ensures.writes.bytes
-    (whole_item r start stop x y w c.write_range.new.pen c.write_range.new.flag (text c.args.sink.now) mid (mid ++ more)
-    (sym c.is_whole.ensures ∙ c.if-not-is_whole.false) e c.in_ok-write_range.ensures.writes.bytes
+    (whole_item r start stop x y w c.write_range.new.pen c.write_range.new.wrapped (text c.args.sink.now) mid
+    (mid ++ more) (sym c.is_whole.ensures ∙ c.if-not-is_whole.false) e c.in_ok-write_range.ensures.writes.bytes
     c.in_ok-write_range.ensures.writes.stands c.in_ok-write_range.ensures.writes.is_wrapped refl) some)))
     c.write_end.ensures.nonempty

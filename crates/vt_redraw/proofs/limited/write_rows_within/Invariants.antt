@@ -9,7 +9,7 @@ use Rattle.vt_redraw.proofs.limited.write_rows_within.Given as goal
 -- output.
 abbrev pub invariant-loop-row : goal.invariant-loop-row
 invariant-loop-row l = record {
-  leads : Leads (string_bytes l.text) (rows_under l.row l.view.width l.pen l.on l.view.rows l.prev.rows)
+  leads : Leads (string_bytes l.text) (rows_under l.row l.view.width l.pen l.wrapped_above l.view.rows l.prev.rows)
       (string_bytes l.fn.text) (rows_written l.fn.pen l.view.rows l.prev.rows);
   above : l.above ≡ row_or l.view.width l.view.rows l.row;
   sound : IsRow l.view.width l.above;

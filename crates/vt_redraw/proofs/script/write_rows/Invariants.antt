@@ -9,7 +9,7 @@ use Rattle.vt_redraw.proofs.script.write_rows.Given as goal
 -- output.
 abbrev pub invariant-loop-row : goal.invariant-loop-row
 invariant-loop-row g l = record {
-  leads : Leads (g.S.Sink.text l.sink) (rows_under l.row l.view.width l.pen l.on l.view.rows l.prev.rows)
+  leads : Leads (g.S.Sink.text l.sink) (rows_under l.row l.view.width l.pen l.wrapped_above l.view.rows l.prev.rows)
       (g.S.Sink.text l.fn.sink) (rows_written l.fn.pen l.view.rows l.prev.rows);
   grows : length (g.S.Sink.text l.fn.sink) ≤ length (g.S.Sink.text l.sink);
   above : l.above ≡ row_or l.view.width l.view.rows l.row;
