@@ -121,7 +121,7 @@ fn write_wrapping<S: Sink>(sink: &mut S, pen: &Pen, row: u16, text: &str) -> Res
 {
     if pen.is_shifted {
         let pos = Pos { row, col: 0 };
-        sink.write_str(" ")?;
+        write_text(sink, " ")?;
         MoveTo { pos }.write_buf(sink)?;
     }
     write_text(sink, text)
