@@ -71,6 +71,7 @@ impl Drop for Scanner {
 
 impl Scanner {
     /// Creates a scanner in the ground state. Allocates nothing.
+    #[tactic(auto, using(crate::proofs::Steps::stands_plain))]
     pub fn new(alloc: Global) -> Self
         ensures { StandsFor result start }
     {
@@ -225,6 +226,7 @@ impl Scanner {
     ///
     /// Returns [`Error::OutOfMemory`] if the byte belongs to the text of an operating system
     /// command and memory for it cannot be allocated. On error, the scanner is unchanged.
+    #[tactic(auto, using(crate::proofs::Steps::fed_end), unfolding(crate::specs::Table::class_of))]
     fn feed_sequence(&mut self, byte: u8) -> Result<Events, Error>
         requires { self.old.kind ≢ Kind.Ground }
         ensures fed { IfOk result (Feeds self.old byte self.new) }

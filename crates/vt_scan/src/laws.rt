@@ -28,6 +28,7 @@ pub fn pieces()
 /// If the contents of a scanner represent two states of the automaton, the same bytes yield the
 /// same events from both states. Contents that represent one of the two resulting states also
 /// represent the other.
+#[tactic(auto, using(crate::proofs::Alike::both_stand, crate::proofs::Alike::other_stands, crate::proofs::Alike::runs_alike))]
 pub fn futures()
     ensures events { (held : ScannerValue) (s t : State) (bytes : List ℕ) → StandsFor held s →
         StandsFor held t → (run s bytes).events ≡ (run t bytes).events }
@@ -37,6 +38,7 @@ pub fn futures()
 
 /// States that a character encoded in UTF-8 is parsed as that character, and that a control
 /// character other than ESC is executed.
+#[tactic(auto, using(crate::proofs::Readback::read_ascii, crate::proofs::Readback::read_written, crate::proofs::Readback::read_text, crate::proofs::Readback::read_control))]
 pub fn characters()
     ensures ascii { (b : ℕ) → 0x20 ≤ b → b ≤ 0x7F → run start (b ∷ []) ≡ back_with (Character b ∷ []) }
     ensures unicode { (c : ℕ) → IsScalar c → 0x20 ≤ c → run start (encode_utf8 c) ≡ back_with (Character c ∷ []) }
@@ -47,12 +49,14 @@ pub fn characters()
 
 /// States that input without the bytes EF B8 8F, the encoding of U+FE0F, never yields that
 /// character when parsed from the ground state (Unicode Standard, section 3.9).
+#[tactic(auto, using(crate::proofs::Selectors::reads_none))]
 pub fn selectors()
     ensures { (bytes : List ℕ) → SpellsNoSelector bytes → ReadsNoSelector start bytes }
 {}
 
 /// States that complete sequences are parsed as written: ESC with a final byte that introduces no
 /// other sequence, and CSI with an optional `?`, any parameter bytes and a final byte.
+#[tactic(auto, using(crate::proofs::Readback::read_escape, crate::proofs::Readback::read_csi, crate::proofs::Readback::read_private))]
 pub fn sequences()
     ensures escape { (b : ℕ) → 0x30 ≤ b → b ≤ 0x7E → b ≢ 0x5B → b ≢ 0x5D → b ≢ 0x50 → b ≢ 0x58 →
         b ≢ 0x5E → b ≢ 0x5F → run start (0x1B ∷ b ∷ []) ≡ back_with (EscDispatch [] b ∷ []) }
@@ -64,6 +68,7 @@ pub fn sequences()
 
 /// States that decimal numbers up to 65535 are parsed as written: each of up to 32 numbers joined
 /// by `;` forms its own group, and an empty parameter string yields the single number 0.
+#[tactic(auto, using(crate::proofs::ParameterNumbers::empty_groups, crate::proofs::ParameterNumbers::decimal_groups, crate::proofs::ParameterNumbers::joined_groups, crate::proofs::ParameterNumbers::place_groups_are))]
 pub fn numbers()
     ensures empty { (table_of []).groups ≡ (0 ∷ []) ∷ [] }
     ensures one { (n : ℕ) → n ≤ 65535 → (table_of (decimal n)).groups ≡ (n ∷ []) ∷ [] }
@@ -74,6 +79,7 @@ pub fn numbers()
 {}
 
 /// States that decimal numbers joined by `;` consist of parameter bytes.
+#[tactic(auto, using(crate::proofs::ParameterNumbers::decimal_is_parameter, crate::proofs::ParameterNumbers::joined_is_parameter, crate::proofs::ParameterNumbers::place_is_parameter))]
 pub fn parameter_texts()
     ensures one { (n : ℕ) → n ≤ 65535 → IsParameterText (decimal n) }
     ensures several { (ns : List ℕ) → All (λ n. n ≤ 65535) ns → IsParameterText (semicolon_list ns) }

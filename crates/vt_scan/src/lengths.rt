@@ -9,6 +9,7 @@ ghost use Rattle.vt_scan.specs.Scanner.{IsPrintableByte};
 use std::simd::prelude::*;
 
 /// Returns the number of leading bytes that are printable ASCII.
+#[tactic(auto, using(crate::proofs::Lists::unprintable))]
 #[inline]
 pub fn printable_len(bytes: &[u8]) -> usize
     ensures inside { result ≤ length bytes.now }
@@ -19,6 +20,7 @@ pub fn printable_len(bytes: &[u8]) -> usize
 }
 
 /// Returns the number of leading bytes that are not C0 control characters.
+#[tactic(auto, using(crate::proofs::Lists::control))]
 #[inline]
 pub fn text_len(bytes: &[u8]) -> usize
     ensures inside { result ≤ length bytes.now }
@@ -29,6 +31,7 @@ pub fn text_len(bytes: &[u8]) -> usize
 }
 
 /// Returns the number of leading bytes other than `;`.
+#[tactic(auto, using(crate::proofs::Lists::semicolon))]
 #[inline]
 pub fn part_len(bytes: &[u8]) -> usize
     ensures inside { result ≤ length bytes.now }
@@ -94,6 +97,7 @@ fn len_before(bytes: &[u8], low: u8, width: u8) -> usize
 
 /// Returns a mask in which bit `k` is set if the byte in lane `k` is in the range from `low` to
 /// `low + width` (see [`is_in_range`]).
+#[tactic(auto, using(crate::proofs::Lists::range_mask))]
 #[inline(always)]
 fn lanes_in_range(lanes: u8x16, low: u8, width: u8) -> u64
     ensures { result ≡ mask_l (map (is_in_range low width) lanes) }

@@ -88,6 +88,7 @@ fn narrow_coded(bytes: &[u8]) -> Option<(char, usize)>
 
 /// Decodes the two-byte character with the bytes `a` and `b`. Returns `None` unless the character
 /// is valid and takes one column.
+#[tactic(auto, using(crate::proofs::Characters::coded_two, crate::proofs::Characters::whole_two))]
 #[inline(always)]
 fn narrow_two(a: u8, b: u8) -> Option<char>
     ensures { IfSome result (IsNarrowCoded (a ∷ b ∷ [])) }

@@ -51,6 +51,7 @@ impl Parameters {
     }
 
     /// Resets the parameters to one group with the number 0.
+    #[tactic(auto, using(crate::proofs::ParameterNumbers::step_clear))]
     #[inline]
     pub fn clear(&mut self)
         ensures { self.new ≡ table_of [] }
@@ -211,6 +212,7 @@ impl Parameters {
     }
 
     /// Returns the number of parameter groups, 1 to 32.
+    #[tactic(auto, using(crate::proofs::ParameterGroups::groups_count))]
     #[inline]
     pub fn group_count(&self) -> usize
         ensures { result ≡ length self.now.groups }

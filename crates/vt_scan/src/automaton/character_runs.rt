@@ -38,6 +38,7 @@ impl Scanner {
     ///
     /// Feeding the decoded bytes would only report these characters and leave the scanner
     /// unchanged, so the caller can skip them.
+    #[tactic(auto, using(crate::proofs::Characters::narrow_fed))]
     #[inline]
     pub fn narrow_text(&self, bytes: &[u8], text: &mut [char]) -> (usize, usize)
         ensures room { result.0 ≤ length text.new }

@@ -169,6 +169,7 @@ impl Scanner {
     /// Parses the optional private marker and the parameter bytes of a control sequence whose `[`
     /// has already been parsed. Returns how many bytes it parsed. Tests for a marker only if there
     /// are no parameter bytes, since most sequences have no marker.
+    #[tactic(auto, using(crate::proofs::Leading::feeds_then))]
     #[inline(always)]
     fn take_from_entry(&mut self, bytes: &[u8]) -> usize
         requires { self.old.kind ≡ Kind.CsiEntry }
@@ -277,6 +278,7 @@ impl Scanner {
     }
 
     /// Parses a leading `ESC [` if no character is incomplete, and returns whether it was parsed.
+    #[tactic(auto, using(std::proofs::lemmas::Bool::Decides::nat_tests, std::proofs::lemmas::List::nil_from_length))]
     #[inline(always)]
     fn take_opening(&mut self, bytes: &[u8]) -> bool
         requires { self.old.kind ≡ Kind.Ground }
