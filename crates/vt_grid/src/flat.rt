@@ -124,7 +124,7 @@ impl Flat {
     }
 
     /// Returns whether a row is wrapped (its text continues on the next row).
-    #[tactic(auto, using(crate::proofs::Flats::rows_counted))]
+    #[tactic(auto, using(crate::proofs::Flats::rows_counted, crate::proofs::Flats::row_found))]
     #[inline]
     pub fn wrapped(&self, row: usize) -> bool
         requires { row < length (rows_of self.now) }

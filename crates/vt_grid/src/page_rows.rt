@@ -91,6 +91,7 @@ impl PageRows {
     }
 
     /// Returns the number of rows.
+    #[tactic(auto, using(crate::proofs::Flats::rows_counted))]
     #[inline]
     pub fn len(&self) -> usize
         ensures { result ≡ length self.now.rows }
@@ -141,7 +142,7 @@ impl PageRows {
 
     /// Sets the wrapped flag of a row to `wrapped`.
     #[inline]
-    #[tactic(auto, using(crate::proofs::Flats::rows_counted))]
+    #[tactic(auto, using(crate::proofs::Flats::rows_counted, crate::proofs::Flats::row_flagged))]
     pub fn wrap(&mut self, row: usize, wrapped: bool)
         requires { row < length self.old.rows }
         ensures { self.new ≡ with_page_row row (record (page_row self.old row) { wrapped = wrapped }) self.old }

@@ -75,6 +75,7 @@ impl Grid {
     ///
     /// Returns [`Error::OutOfMemory`] if memory for scrollback cannot be allocated. On error,
     /// nothing is changed and no row is reported.
+    #[tactic(auto, using(crate::proofs::Printing::has_room_made, crate::proofs::Printing::width_room_made))]
     #[inline(always)]
     fn print_narrow<L: Leaving>(
         &mut self,
@@ -332,6 +333,7 @@ impl Grid {
 
     /// Puts a removed cell back at column `col` of the cursor's row, and sets the row's wrapped
     /// flag to `is_wrapped`.
+    #[tactic(auto, using(crate::proofs::Carries::sized_with_row))]
     fn put_back(&mut self, col: u16, cell: Cell, is_wrapped: bool)
         requires inside { col < length (cursor_row self.old).cells }
         requires page { IsPage (with_row self.old.row
@@ -434,6 +436,7 @@ impl Grid {
 
 /// Returns the glyph `cell` with the combining character `mark` added, as a wide glyph with
 /// attributes `attrs`.
+#[tactic(auto, using(crate::proofs::Printing::selected_cell, crate::proofs::Printing::lifted_cell))]
 fn widened(mut cell: Cell, mark: char, attrs: Attrs) -> Cell
     requires mark { columns_of mark ≡ Some 0 }
     requires selector { is_selector mark ≡ true }

@@ -45,6 +45,7 @@ impl Grid {
     ///
     /// The result is the same as that of calling [`Grid::print_columns`] for each
     /// character.
+    #[tactic(auto, using(crate::proofs::Texts::text_printed))]
     #[inline]
     pub fn print_narrow_text(&mut self, text: &[char], attrs: Attrs)
         requires nonempty { 0 < length text.now }
@@ -75,6 +76,7 @@ impl Grid {
     ///
     /// The result is the same as that of calling [`Grid::print_columns`] for each
     /// character.
+    #[tactic(auto, using(crate::proofs::Texts::wide_text_printed))]
     #[inline]
     pub fn print_wide_text(&mut self, text: &[char], attrs: Attrs)
         requires nonempty { 0 < length text.now }
