@@ -76,6 +76,7 @@ pub fn blank_end(cells: &mut [Cell])
 }
 
 /// Returns whether the cell is a default blank, that is, a blank with default attributes.
+#[tactic(auto, using(crate::proofs::Rows::default_is))]
 #[inline]
 pub(crate) fn is_default(cell: &Cell) -> bool
     ensures { result ≡ is_default_blank cell.now }

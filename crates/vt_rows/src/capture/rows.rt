@@ -177,6 +177,7 @@ fn is_within_after(within: bool, c: char) -> bool
 
 /// Returns the number of columns that a character outside SGR sequences takes, from 0 to 2. A
 /// character without a width, such as a control character, takes one column.
+#[tactic(auto, unfolding(crate::specs::Stretches::shown_columns))]
 fn shown_columns(c: char) -> u32
     ensures value { result ≡ shown_columns c }
     ensures most { result ≤ 2 }
