@@ -79,6 +79,7 @@ impl Attrs {
     }
 
     /// Creates attributes by packing `parts` into one word.
+    #[tactic(auto, using(crate::proofs::Packing::attrs_made))]
     #[inline]
     fn of(parts: Parts) -> Self
         ensures { result ≡ record {

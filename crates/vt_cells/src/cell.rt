@@ -241,6 +241,7 @@ impl Eq for Cell {
 }
 
 /// Returns whether the cell is a blank: no text, and not a continuation cell.
+#[tactic(auto, using(crate::proofs::Cells::blank_kept), unfolding(crate::specs::Internals::same_shape))]
 #[inline]
 pub fn is_blank(cell: &Cell) -> bool
     ensures { result ≡ is_blank cell.now }
