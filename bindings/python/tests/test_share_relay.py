@@ -135,6 +135,9 @@ class Screens(Case):
                     await asyncio.sleep(0.1)
                 self.assertLess(max(lengths), 40)
                 self.assertGreater(min(lengths), 0)
+                # If the server vanishes now, Redis removes the keys after an hour.
+                for name in ("stream", "stream:owner"):
+                    self.assertIn(int(server.call("TTL", name)), range(3590, 3601))
 
         with RedisServer() as server, mock.patch("vt100.share._publish.KEYFRAME_GAP", 0.3):
             asyncio.run(check(server))

@@ -16,7 +16,7 @@ from test_share_history import lines
 from vt100.share import _stream as stream
 from vt100.share._history import MAX_ROWS
 from vt100.share._publish import Census
-from vt100.share._relay import RelayedRows
+from vt100.share._relay import Relay, RelayedRows
 
 CAT = ["sh", "-c", "stty -echo; exec cat"]
 RUN, OTHER = b"a" * 16, b"b" * 16
@@ -104,6 +104,13 @@ class Counts(unittest.TestCase):
     def test_only_so_many_relays_are_counted(self):
         reports = {b"%d" % number: stream.report(1, 1, 0) for number in range(2000)}
         self.assertEqual(Census().count(reports, 0.0), (1024, 0))
+
+    def test_a_relay_shows_the_last_numbers_or_its_own(self):
+        relay = Relay.__new__(Relay)
+        relay._viewers, relay._writer_count = dict.fromkeys(range(3)), 2
+        for published, shown in (((0, 0), (3, 2)), ((9, 1), (9, 2)), ((2, 5), (3, 5))):
+            relay._total = published
+            self.assertEqual(relay._all_counts(), shown)
 
 
 @needs_redis
