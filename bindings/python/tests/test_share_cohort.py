@@ -136,6 +136,10 @@ class Messages(unittest.TestCase):
     def test_titles_have_no_controls(self):
         self.assertEqual(messages.title(b"a\x1b]0;b\x07\xff\xc2\x9bc"), "Ta]0;b\ufffdc".encode())
         self.assertEqual(len(messages.title(b"a" * 100000)), 1 + messages.MAX_TITLE)
+        for title in (b"\xff" * 100000, b"a" + b"\xc3\xa4" * 1000):
+            sent = messages.title(title)
+            self.assertIn(len(sent), range(messages.MAX_TITLE - 2, messages.MAX_TITLE + 2))
+            sent.decode()
 
 
 if __name__ == "__main__":

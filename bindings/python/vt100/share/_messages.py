@@ -70,7 +70,8 @@ def may_write(is_allowed: bool) -> bytes:
 def title(text: bytes) -> bytes:
     """Returns the message for a title, without controls and malformed UTF-8."""
     printable = "".join(filter(str.isprintable, text[:MAX_TITLE].decode(errors="replace")))
-    return b"T" + printable.encode()
+    # U+FFFD takes more bytes than the one that it replaces.
+    return b"T" + printable.encode()[:MAX_TITLE].decode(errors="ignore").encode()
 
 
 def counts(viewers: int, writers: int) -> bytes:
