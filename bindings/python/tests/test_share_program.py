@@ -89,17 +89,18 @@ class Program(Run):
 
     def test_a_signal_ends_everything(self):
         script = "trap '' HUP TERM; echo $$; sleep 60 & echo $!; wait"
-        record = os.path.join(self.folder, "out.cast")
-        process = self.start("--record", record, "--", "sh", "-c", script)
-        children = []
-        while len(children) < 2:
-            time.sleep(0.02)
-            children = self.recorded(record).split()
-        process.send_signal(signal.SIGTERM)
-        process.communicate(timeout=10)
-        self.assertEqual(process.returncode, 128 + signal.SIGTERM)
-        for child in children:
-            self.assertFalse(os.path.exists(f"/proc/{child}/exe"), child)
+        for number in (signal.SIGTERM, signal.SIGINT, signal.SIGHUP):
+            record = os.path.join(self.folder, f"{number}.cast")
+            process = self.start("--record", record, "--", "sh", "-c", script)
+            children = []
+            while len(children) < 2:
+                time.sleep(0.02)
+                children = self.recorded(record).split()
+            process.send_signal(number)
+            process.communicate(timeout=10)
+            self.assertEqual(process.returncode, 128 + number)
+            for child in children:
+                self.assertFalse(os.path.exists(f"/proc/{child}/exe"), child)
 
     def test_a_port_in_use(self):
         first = self.start("--", "cat")
