@@ -171,8 +171,29 @@ class Order(unittest.TestCase):
         parser.process(b"\x1b]2;mine\x07")
         self.assertEqual(parser.title, b"mine")
 
+    def test_each_object_of_a_list_gets_the_events_of_its_methods(self):
+        calls = []
+
+        class Bells(vt100.Callbacks):
+            def audible_bell(self, screen):
+                calls.append("bell")
+
+        class Both(vt100.Callbacks):
+            def audible_bell(self, screen):
+                calls.append("both")
+
+            def set_window_title(self, screen, title):
+                calls.append(title)
+
+        for callbacks in ([Bells(), Both()], (Bells(), vt100.Callbacks(), Both())):
+            parser = vt100.Parser(callbacks=callbacks)
+            parser.process(b"\x07\x1b]2;t\x07\x07")
+            self.assertEqual(calls, ["bell", "both", b"t", "bell", "both"])
+            self.assertIs(parser.callbacks, callbacks)
+            calls.clear()
+
     def test_callbacks_are_an_object_of_the_class(self):
-        for wrong in (Log, "text", lambda: None):
+        for wrong in (Log, "text", lambda: None, [Log(), Log]):
             with self.assertRaisesRegex(TypeError, "Callbacks"):
                 vt100.Parser(callbacks=wrong)
 
