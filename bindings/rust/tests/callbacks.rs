@@ -147,6 +147,85 @@ fn a_parser_goes_on_behind_a_panic() {
     assert_eq!(parser.callbacks().0, 1);
 }
 
+/// Callbacks that panic at each row that scrolls off while `is_fragile`, and count bells.
+struct Fragile {
+    is_fragile: bool,
+    bells: usize,
+}
+
+impl Callbacks for Fragile {
+    fn audible_bell(&mut self, _: &mut Screen) {
+        self.bells += 1;
+    }
+
+    fn on_scroll(&mut self, _: RowContents<'_>, _: bool) {
+        assert!(!self.is_fragile, "a row");
+    }
+}
+
+#[test]
+fn a_row_has_scrolled_off_after_a_panic() {
+    let callbacks = Fragile {
+        is_fragile: true,
+        bells: 0,
+    };
+    let mut parser = Parser::new_with_callbacks(size(2), size(10), 0, callbacks);
+    let told = catch_unwind(AssertUnwindSafe(|| parser.process(b"a\r\nb\r\nc\x07d")));
+    assert!(told.is_err());
+    assert_eq!(parser.screen().contents().lines().next(), Some("b"));
+    // Neither the pending bell nor the bytes after it come later.
+    parser.callbacks_mut().is_fragile = false;
+    parser.process(b"e");
+    assert!(parser.screen().contents().ends_with('e'));
+    assert!(!parser.screen().contents().contains('d'));
+    assert_eq!(parser.callbacks().bells, 0);
+}
+
+/// A writer that fails.
+struct Failing;
+
+impl std::fmt::Write for Failing {
+    fn write_str(&mut self, _: &str) -> std::fmt::Result {
+        Err(std::fmt::Error)
+    }
+}
+
+/// Callbacks that capture rows, of which the first one is written to a writer that may fail.
+struct FirstLost {
+    fails: bool,
+    text: String,
+    state: BasicFormattedCaptureState,
+}
+
+impl Callbacks for FirstLost {
+    fn on_scroll(&mut self, row: RowContents<'_>, _: bool) {
+        if std::mem::take(&mut self.fails) {
+            let written = row.write_formatted_basic(&mut Failing, &mut self.state);
+            assert!(written.is_err());
+        } else {
+            let written = row.write_formatted_basic(&mut self.text, &mut self.state);
+            assert!(written.is_ok());
+        }
+    }
+}
+
+#[test]
+fn a_row_counts_as_written_if_the_writer_fails() {
+    let texts = [false, true].map(|fails| {
+        let callbacks = FirstLost {
+            fails,
+            text: String::new(),
+            state: BasicFormattedCaptureState::new(),
+        };
+        let mut parser = Parser::new_with_callbacks(size(1), size(10), 0, callbacks);
+        parser.process(b"\x1b[1mone\r\ntwo\r\nthree\r\n");
+        parser.callbacks().text.clone()
+    });
+    let (first, rest) = texts[0].split_at("\x1b[1mone".len());
+    assert_eq!(first, "\x1b[1mone");
+    assert_eq!(rest, texts[1]);
+}
+
 /// Callbacks that capture rows as they scroll off.
 #[derive(Default)]
 struct Capturing {

@@ -2,7 +2,7 @@
 
 use std::io::Write;
 use std::num::NonZeroU16;
-use std::panic::{RefUnwindSafe, UnwindSafe};
+use std::panic::{catch_unwind, AssertUnwindSafe, RefUnwindSafe, UnwindSafe};
 use vt100::{
     Cell, Color, DiffOptions, MouseProtocolEncoding, MouseProtocolMode, Parser, RedrawOptions,
     Screen,
@@ -201,6 +201,17 @@ fn columns_past_the_screen_have_no_text() {
         none
     );
     assert!(!parser.screen().row_wrapped(7));
+}
+
+#[test]
+fn several_rows_from_a_column_past_the_screen_are_a_panic() {
+    let mut parser = Parser::new(size(2), size(5), 0);
+    parser.process(b"abcde\r\nf");
+    let screen = parser.screen();
+    assert_eq!(screen.contents_between(0, 5, 1, 1), "\nf");
+    assert_eq!(screen.contents_between(0, 6, 0, 9), "");
+    assert!(catch_unwind(AssertUnwindSafe(|| screen.contents_between(0, 6, 1, 1))).is_err());
+    assert_eq!(screen.contents(), "abcde\nf");
 }
 
 #[test]
