@@ -445,6 +445,23 @@ class Hostile(Case):
         with RedisServer() as server:
             asyncio.run(check(server))
 
+    def test_commands_that_do_not_end(self):
+        command = b"\x1b]2;" + b"a" * 3_000_000
+        redraw = b"\0\x18\0\x50" + command
+
+        async def check(server):
+            client = relaying.client_of(server)
+            async with Relayed(server) as relay:
+                for number, message in enumerate((b"K" + redraw, b"F" + redraw, b"D" + command), 1):
+                    fields = {b"run": b"a" * 16, b"number": b"%d" % number, b"message": message}
+                    await client.client.xadd("stream", fields)
+                    await until(lambda: relay.share._number == number)
+                    self.assertEqual(relay.share.cohort.parser.pending_len, 0)
+            await client.close()
+
+        with RedisServer() as server:
+            asyncio.run(check(server))
+
     def test_random_entries(self):
         rng = random.Random(5)
 

@@ -183,6 +183,7 @@ class Relay(Audience):
     def _apply(self, entry: stream.Entry, follows: bool) -> None:
         if entry.kind == stream.REDRAW or entry.kind == stream.KEYFRAME and not follows:
             self.cohort.restart(*stream.screen_of(entry.body))
+            self._limit_command()
         elif entry.kind == stream.UPDATE:
             self._parse(entry.body)
         elif entry.kind == stream.TITLE:

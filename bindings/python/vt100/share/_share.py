@@ -179,6 +179,10 @@ class Audience:
     def _parse(self, data: bytes) -> None:
         """Parses output, and cancels a command that is too long."""
         self.cohort.process(data)
+        self._limit_command()
+
+    def _limit_command(self) -> None:
+        """Cancels an unfinished command that is too long."""
         if self.cohort.parser.pending_len > MAX_COMMAND:
             self.cohort.process(_CANCEL)
 
