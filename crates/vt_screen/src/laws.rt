@@ -73,6 +73,7 @@ pub fn same_shown()
 
 /// States that a screen is steady if no displayed cell contains U+FE0F,
 /// whatever the widths of its characters are.
+#[tactic(auto, using(crate::proofs::Shown::steady_without))]
 pub fn steady_without_selectors()
     ensures { (screen : ScreenValue) → IsScreen screen → ShowsNoSelector screen → IsSteady (display screen) }
 {}
@@ -116,6 +117,7 @@ pub fn fresh_capture()
 ///   wrapped row of scrollback was narrower than the screen.
 /// - `sent`, `rest`: the rows that scroll off, and everything on the screen except its scrollback,
 ///   depend on neither the capacity nor the contents of scrollback.
+#[tactic(auto, using(crate::proofs::StepScrollback::both_screen_in, crate::proofs::StepScrollback::both_sent_in, crate::proofs::StepEvents::run_streams, crate::proofs::Streaming::held_screen))]
 pub fn streams()
     ensures kept { (scan : State) (screen : ScreenValue) (bytes : List ℕ) → IsScreen screen → HasWideFlags screen →
         HasNoRis scan bytes →

@@ -112,7 +112,7 @@ impl Screen {
     ///     println!("{}", text?);
     /// }
     /// ```
-    #[tactic(auto, using(crate::proofs::MadeContents::shown_rows))]
+    #[tactic(auto, using(crate::proofs::MadeContents::shown_rows, crate::proofs::MadeContents::rows_made))]
     pub fn rows(&self, start: u16, width: u16) -> Rows<'_>
         ensures texts { rows_left result ≡ row_texts start (start + width) (visible_rows self.now) }
         ensures controls { (r : ℕ) → IsMadeOf [] plain_controls (text_at (rows_left result) r) }

@@ -38,6 +38,7 @@ pub fn decrc(screen: &mut Screen)
 ///
 /// Returns `Error::OutOfMemory` if the alternate page, which is created on the
 /// first switch, cannot be allocated. On error, the screen is unchanged.
+#[tactic(auto, using(crate::proofs::StepPages::entered_with))]
 pub fn enter_alternate(screen: &mut Screen) -> Result<(), Error>
     ensures ok { OnOk result (screen.new ≡ display_after step.EnterAlternate screen.old) }
     ensures err { OnErr result (screen.new ≡ screen.old) }
@@ -56,6 +57,7 @@ pub fn enter_alternate(screen: &mut Screen) -> Result<(), Error>
 ///
 /// Returns `Error::OutOfMemory` if the alternate page, which is created on the
 /// first switch, cannot be allocated. On error, the screen is unchanged.
+#[tactic(auto, using(crate::proofs::StepPages::entered_fresh_with))]
 pub fn enter_fresh_alternate(screen: &mut Screen) -> Result<(), Error>
     ensures ok { OnOk result (screen.new ≡ display_after step.EnterFresh screen.old) }
     ensures err { OnErr result (screen.new ≡ screen.old) }

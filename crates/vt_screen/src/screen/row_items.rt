@@ -148,6 +148,7 @@ impl Screen {
     ///
     /// Returns `Error::OutOfMemory` if the output cannot be allocated. Empty output needs no
     /// allocation.
+    #[tactic(auto, using(crate::proofs::Shown::shown_height))]
     pub(crate) fn row_formatted(&self, row: u16, start: u16, stop: u16) -> Result<String, Error>
         requires inside { row < length self.now.page.rows }
         requires columns { IsColumns start stop self.now }
