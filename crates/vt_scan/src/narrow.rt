@@ -102,6 +102,7 @@ fn narrow_two(a: u8, b: u8) -> Option<char>
 
 /// Decodes the three-byte character with the bytes `a`, `b` and `c`. Returns `None` unless the
 /// character is valid, is below U+3000 and takes one column.
+#[tactic(auto, using(crate::proofs::Characters::coded_three, crate::proofs::Characters::whole_three))]
 #[inline(always)]
 fn narrow_three(a: u8, b: u8, c: u8) -> Option<char>
     ensures { IfSome result (IsNarrowCoded (a ∷ b ∷ c ∷ [])) }
