@@ -162,6 +162,7 @@ impl Buffer {
 
     /// Appends the SGR parameters of a palette color: `layer` (38 for the foreground, 48 for the
     /// background), 5 and `index`. `lead` is the character before the first parameter.
+    #[tactic(auto, using(crate::proofs::Texts::appends_one, crate::proofs::Texts::appends_then))]
     #[inline(always)]
     fn push_indexed(&mut self, lead: u8, layer: u8, index: u8)
         requires room { length self.old + 12 ≤ 256 }
