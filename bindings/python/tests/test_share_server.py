@@ -226,6 +226,39 @@ class Compression(unittest.TestCase):
                 self.assertEqual(self._ends(make, data), (code,))
 
 
+    def test_pings_and_fragments_count_as_messages(self):
+        begun = frame(BINARY, b"i", False)
+        for data in (frame(PING, b"") * 700, begun + frame(CONTINUATION, b"", False) * 700):
+            with self.subTest(data[:12]):
+                self.assertEqual(self._ends(Client, data), (1008,))
+
+    def test_a_ping_before_the_token_ends_the_connection(self):
+        async def check():
+            async with Shared(ECHO) as shared:
+                viewer = await Client(shared.port).open()
+                viewer.writer.write(frame(PING, b""))
+                with self.assertRaises(Closed) as raised:
+                    await viewer.next()
+                self.assertEqual(raised.exception.args, (1008,))
+
+        asyncio.run(check())
+
+    def test_pings_of_who_reads_nothing_end_the_connection(self):
+        async def check():
+            async with Shared(ECHO) as shared:
+                await ready(shared)
+                viewer = await shared.viewer()
+                await viewer.until("")
+                (connection,) = shared.server.connections
+                connection.pause_writing()
+                viewer.writer.write(frame(PING, b""))
+                with self.assertRaises(Closed) as raised:
+                    await viewer.until("never")
+                self.assertEqual(raised.exception.args, (1008,))
+
+        asyncio.run(check())
+
+
 @needs_websockets
 class LeftOut(unittest.TestCase):
     def test_who_has_not_drained_is_left_out(self):

@@ -31,7 +31,7 @@ _END_OF_REQUEST = b"\r\n\r\n"
 _MAX_STRANGERS = 256
 
 #: Opcodes of frames (RFC 6455, section 5.2). Those of control frames are not less than `_CLOSE`.
-_TEXT, _CLOSE = 1, 8
+_TEXT, _CLOSE, _PING = 1, 8, 9
 
 #: Codes of a close frame (RFC 6455, section 7.4.1).
 _NORMAL, _VIOLATION, _TRY_LATER = 1000, 1008, 1013
@@ -244,6 +244,8 @@ class Connection(asyncio.Protocol):
         for frame in protocol.events_received():
             if frame.opcode < _CLOSE and self._is_open:
                 self._take(frame)
+            elif frame.opcode > _CLOSE and self._is_open:
+                self._take_control(frame)
         self._flush()
 
     def _begin(self) -> Any:
@@ -259,6 +261,8 @@ class Connection(asyncio.Protocol):
         if frame.fin and self._parts is None:
             self._message(bytes(frame.data))
             return
+        if self._viewer is not None:
+            self._viewer.take(0)
         self._parts = self._parts or []
         self._parts.append(bytes(frame.data))
         if frame.fin:
@@ -266,6 +270,15 @@ class Connection(asyncio.Protocol):
             self._message(message)
         elif len(self._parts) > messages.MAX_RECEIVED:
             raise messages.Nonsense("too many fragments")
+
+    def _take_control(self, frame: Any) -> None:
+        """Takes a ping or a pong, which counts as a message. The replies to pings of a viewer that
+        reads nothing would fill the memory."""
+        if self._viewer is None:
+            raise messages.Nonsense("the token is the first message")
+        if frame.opcode == _PING and not self._viewer.is_drained:
+            raise messages.Nonsense("a ping before earlier messages were read")
+        self._viewer.take(len(frame.data))
 
     def _message(self, message: bytes) -> None:
         if self._share is not None and self._viewer is not None:

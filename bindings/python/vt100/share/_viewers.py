@@ -141,7 +141,7 @@ class Viewer:
     def receive(self, message: bytes) -> Optional[bytes]:
         """Takes a message of the viewer. Returns what was typed, or None for an acknowledgement.
         Raises `Nonsense` if the viewer may not send this message, or sends too much."""
-        self._take(len(message))
+        self.take(len(message))
         kind = message[:1]
         if kind == b"a":
             self._acknowledge(messages.count_of(message))
@@ -150,8 +150,9 @@ class Viewer:
             return message[1:]
         raise Nonsense("not a message of a viewer")
 
-    def _take(self, count: int) -> None:
-        """Takes a message with `count` bytes from what the viewer may send."""
+    def take(self, count: int) -> None:
+        """Takes a message with `count` bytes from what the viewer may send. Raises `Nonsense` if
+        that is too much."""
         now = time.monotonic()
         passed, self._at = now - self._at, now
         may_send = min(MESSAGE_BURST, self._messages_left + passed * MESSAGE_RATE) - 1
