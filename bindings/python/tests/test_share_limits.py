@@ -10,6 +10,7 @@ from unittest import mock
 
 from sharing import Client, Shared, Tokens, needs_websockets
 from vt100.share import _server, _viewers
+from vt100.share._redis import Delays
 from vt100.share._share import Queries, Share
 
 CAT = ["cat"]
@@ -129,6 +130,17 @@ class Waiting(unittest.TestCase):
 
         script = "printf '\\033]2;'; head -c 1200000 /dev/zero | tr '\\0' a; echo; echo after; read a"
         run(check, ["sh", "-c", script])
+
+
+class Attempts(unittest.TestCase):
+    def test_redis_is_tried_again_within_two_seconds(self):
+        delays = Delays()
+        for _ in range(2):
+            found = [delays.next() for _ in range(50)]
+            self.assertLessEqual(max(found), 2.0)
+            self.assertLessEqual(found[0], 0.1)
+            self.assertGreater(max(found), 1.0)
+            delays.reset()
 
 
 class Secrets(unittest.TestCase):
