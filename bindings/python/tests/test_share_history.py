@@ -100,7 +100,7 @@ class Histories(unittest.TestCase):
         self._check(recorded() + b"\x1b[?1049l", 8, (24, 80), 500)
 
     def test_erased_rows_are_discarded(self):
-        for erasure in (b"\x1b[3J", b"\x1b[0003J", b"\x1bc"):
+        for erasure in (b"\x1b[3J", b"\x1b[0003J", b"\x1b[3;1J", b"\x1b[?3J", b"\x1bc"):
             for cut in range(len(erasure)):
                 parser = vt100.Parser(4, 20, 100)
                 history = History(100)

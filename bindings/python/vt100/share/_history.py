@@ -22,9 +22,10 @@ GAP = 1 / 30
 #: How many viewers get rows before the event loop has its turn.
 SLICE = 500
 
-#: ED 3 and RIS, which erase the scrollback.
-_ERASURES = re.compile(rb"\x1b\[0*3J|\x1bc")
-_LONGEST_ERASURE = 16
+#: ED 3 and RIS, which erase the scrollback. Only the first number of ED counts, and a "?" may
+#: precede it.
+_ERASURES = re.compile(rb"\x1b\[\??0*3(?:[;:][0-9;:]*)?J|\x1bc")
+_LONGEST_ERASURE = 32
 
 
 class Part(NamedTuple):
