@@ -251,6 +251,9 @@ class Compression(unittest.TestCase):
                 await viewer.until("")
                 (connection,) = shared.server.connections
                 connection.pause_writing()
+                viewer.writer.write(frame(PING, b"") * 16)
+                await asyncio.sleep(0.2)
+                self.assertIn(connection, shared.server.connections)
                 viewer.writer.write(frame(PING, b""))
                 with self.assertRaises(Closed) as raised:
                     await viewer.until("never")

@@ -33,6 +33,9 @@ _MAX_STRANGERS = 256
 #: Opcodes of frames (RFC 6455, section 5.2). Those of control frames are not less than `_CLOSE`.
 _TEXT, _CLOSE, _PING = 1, 8, 9
 
+#: How many replies to pings may wait for a viewer that reads nothing.
+_MAX_PINGS = 16
+
 #: Codes of a close frame (RFC 6455, section 7.4.1).
 _NORMAL, _VIOLATION, _TRY_LATER = 1000, 1008, 1013
 
@@ -136,6 +139,7 @@ class Connection(asyncio.Protocol):
         "_viewer",
         "_heard",
         "_is_pinged",
+        "_pings",
     )
 
     def __init__(self, server: Server) -> None:
@@ -150,6 +154,7 @@ class Connection(asyncio.Protocol):
         self._viewer: Optional[Viewer] = None
         self._heard = time.monotonic()  # when a viewer has last sent something
         self._is_pinged = False
+        self._pings = 0  # how many have arrived since all that was sent had left the process
 
     # ---- what asyncio calls
 
@@ -174,6 +179,7 @@ class Connection(asyncio.Protocol):
             self._viewer.is_drained = False
 
     def resume_writing(self) -> None:
+        self._pings = 0
         if self._share is not None and self._viewer is not None:
             self._viewer.is_drained = True
             if self._viewer.is_behind:
@@ -276,9 +282,11 @@ class Connection(asyncio.Protocol):
         reads nothing would fill the memory."""
         if self._viewer is None:
             raise messages.Nonsense("the token is the first message")
-        if frame.opcode == _PING and not self._viewer.is_drained:
-            raise messages.Nonsense("a ping before earlier messages were read")
         self._viewer.take(len(frame.data))
+        if frame.opcode == _PING and not self._viewer.is_drained:
+            self._pings += 1
+            if self._pings > _MAX_PINGS:
+                raise messages.Nonsense("too many pings before earlier messages were read")
 
     def _message(self, message: bytes) -> None:
         if self._share is not None and self._viewer is not None:
