@@ -1,14 +1,16 @@
 -- The characters on whose width terminals agree, by ranges of their codes.
 use Rattle.std.proofs.Common.{◌≡◌, ◌<◌, ◌≤◌, ◌+◌, ◌-◌, ◌*◌, ◌||◌, ◌&&◌, ℕ, List, [], ◌∷◌, length, arith, ap, false, true}
-use Rattle.std.proofs.Common.{nat_le, refl, ◌∙◌}
+use Rattle.std.proofs.Common.{nat_le, refl, ◌∙◌, ◌⊎◌, inl, inr, Bool}
 use Rattle.std.specs.Char.{encode_utf8}
 use Rattle.std.specs.Str.{IsUtf8, chars, continuation_len, encode_utf8_all, lead_bits}
+use Rattle.std.proofs.lemmas.Bool.{cases_lt}
 use Rattle.std.proofs.lemmas.Bool.Decides.{nat_tests}
 use Rattle.std.proofs.lemmas.List.{length-append}
 use Rattle.std.proofs.lemmas.Str.{encodes-chars}
-use Rattle.vt_cells.proofs.Glyphs.{encode_bounds}
+use Rattle.vt_cells.proofs.Glyphs.{one_byte, two_bytes as encoded_in_two, three_bytes as encoded_in_three}
 use Rattle.vt_redraw.specs.Certain.{are_certain, is_between, is_certain, is_certain_letter, is_certain_narrow}
 use Rattle.vt_redraw.specs.Certain.{is_certain_symbol, is_certain_text, is_certain_wide}
+use Rattle.vt_redraw.specs.CertainParts.{is_early_letter, is_high_narrow, is_late_letter}
 
 -- ---- the ranges that a part of the codes is or is not in
 
@@ -66,6 +68,48 @@ beyond_wide c from = grind (arith, nat_tests, from)
 
 -- ---- the certain characters of each part
 
+or_none : (b : Bool) → (b || false) ≡ b
+or_none true = refl
+or_none false = refl
+
+no_late_letter : (c : ℕ) → c < 0x600 → is_late_letter c ≡ false
+unfolding is_late_letter
+no_late_letter c less = grind (arith, nat_tests, less)
+
+pub early_letter : (c : ℕ) → c < 0x600 → is_early_letter c ≡ is_certain_letter c
+unfolding is_certain_letter is_early_letter is_late_letter
+early_letter c less =
+    let none = no_late_letter c less in rw (none, or_none (is_between 0x5D0 0x5EA c)) refl
+
+pub late_letter : (c : ℕ) → 0x600 ≤ c → is_late_letter c ≡ is_certain_letter c
+unfolding is_certain_letter is_late_letter
+late_letter c from = grind (arith, nat_tests, from)
+
+no_ascii : (c : ℕ) → 0x3000 ≤ c → is_between 0x20 0x7E c ≡ false
+no_ascii c from = grind (arith, nat_tests, from)
+
+high_symbol_is : (c : ℕ) → 0x3000 ≤ c →
+    is_certain_symbol c ≡ (is_between 0xE0A0 0xE0A2 c || is_between 0xE0B0 0xE0B3 c)
+unfolding is_certain_symbol
+high_symbol_is c from = grind (arith, nat_tests, from)
+
+high_letter_is : (c : ℕ) → 0x3000 ≤ c →
+    is_certain_letter c
+    ≡ (is_between 0xFB50 0xFBB1 c || (is_between 0xFE70 0xFE74 c || (is_between 0xFE76 0xFEFC c || is_between 0xFF61 0xFF9D c)))
+unfolding is_certain_letter
+high_letter_is c from = grind (arith, nat_tests, from)
+
+regrouped : (a b r : Bool) → (a || (b || r)) ≡ ((a || b) || r)
+regrouped true b r = refl
+regrouped false b r = refl
+
+high_narrow_is : (c : ℕ) → 0x3000 ≤ c → is_high_narrow c ≡ is_certain_narrow c
+unfolding is_certain_narrow is_high_narrow
+high_narrow_is c from =
+    rw (no_ascii c from, high_symbol_is c from, high_letter_is c from)
+    (regrouped (is_between 0xE0A0 0xE0A2 c) (is_between 0xE0B0 0xE0B3 c)
+    (is_between 0xFB50 0xFBB1 c || (is_between 0xFE70 0xFE74 c || (is_between 0xFE76 0xFEFC c || is_between 0xFF61 0xFF9D c))))
+
 pub beyond : (c : ℕ) → 0xFFFF < c → is_certain c ≡ false
 unfolding is_certain_narrow
 beyond c from = rw (beyond_letter c from, beyond_symbol c from, beyond_wide c from) (grind (arith, nat_tests, from))
@@ -84,8 +128,9 @@ among_symbols c from less =
     rw (middle_letter c from less, low_wide c less) (grind (arith, nat_tests, box c, from))
 
 pub after_symbols : (c : ℕ) → 0x3000 ≤ c →
-    (is_between 0x4E00 0x9FD5 c || (is_certain_wide c || (nat_le 0xE000 c && is_certain_narrow c))) ≡ is_certain c
-after_symbols c from = grind (arith, nat_tests, high_narrow c from, ideograph c, from)
+    (is_between 0x4E00 0x9FD5 c || (is_certain_wide c || (nat_le 0xE000 c && is_high_narrow c))) ≡ is_certain c
+after_symbols c from =
+    rw (high_narrow_is c from) (grind (arith, nat_tests, high_narrow c from, ideograph c, from))
 
 -- ---- texts of two and three bytes, and longer ones
 
@@ -115,12 +160,22 @@ ideograph_bytes a b c from upto second third =
     ∙ certain_ideograph (((a - 0xE0) * 64 + (b - 0x80)) * 64 + (c - 0x80)) (omega (arith, from))
     (omega (arith, upto, second, third))
 
-pub longer : (text : List ℕ) → IsUtf8 text → 4 < length text → is_certain_text text ≡ false
+short_encoding : (c : ℕ) → c < 0x1_0000 → length (encode_utf8 c) ≤ 3
+short_encoding c below = by_range (cases_lt c 0x80) (cases_lt c 0x800) where
+  by_range : (c < 0x80) ⊎ (0x80 ≤ c) → (c < 0x800) ⊎ (0x800 ≤ c) → length (encode_utf8 c) ≤ 3
+  by_range (inl one) two = let n = ap length (one_byte c one) in omega (arith, n)
+  by_range (inr above) (inl two) = let n = ap length (encoded_in_two c above two) in omega (arith, n)
+  by_range (inr above) (inr more) = let n = ap length (encoded_in_three c more below) in omega (arith, n)
+
+pub longer : (text : List ℕ) → IsUtf8 text → 3 < length text → is_certain_text text ≡ false
 longer text utf8 more = by_chars (chars text) (encodes-chars text utf8) where
+  by_size : (c : ℕ) → length (encode_utf8 c) ≡ length text → (c < 0x1_0000) ⊎ (0x1_0000 ≤ c) → is_certain c ≡ false
+  by_size c e (inl below) = let short = short_encoding c below in absurd (omega (arith, e, short, more))
+  by_size c e (inr from) = beyond c (omega (arith, from))
+
   by_chars : (cs : List ℕ) → encode_utf8_all cs ≡ text → are_certain cs ≡ false
   by_chars [] e = refl
   by_chars (c ∷ []) e =
-      let bounds = encode_bounds c in
       let sum = length-append (encode_utf8 c) [] in
-      let same = ap length e in absurd (omega (arith, more))
+      let same = ap length e in by_size c (omega (arith, sum, same)) (cases_lt c 0x1_0000)
   by_chars (c ∷ d ∷ cs) e = refl

@@ -1,8 +1,9 @@
 //! Characters on whose width terminals agree.
 
 ghost use Rattle.std.specs.Prelude.{◌≡◌, ◌<◌, ◌≤◌, [], ◌∷◌, chars};
-ghost use Rattle.vt_redraw.specs.Certain.{is_between, is_certain, is_certain_letter, is_certain_narrow};
+ghost use Rattle.vt_redraw.specs.Certain.{is_between, is_certain, is_certain_letter};
 ghost use Rattle.vt_redraw.specs.Certain.{is_certain_symbol, is_certain_text, is_certain_wide};
+ghost use Rattle.vt_redraw.specs.CertainParts.{is_early_letter, is_high_narrow, is_late_letter};
 
 /// Returns whether terminals agree on the width of the character `c`.
 pub fn is_certain(c: char) -> bool
@@ -63,7 +64,23 @@ fn is_certain_after_symbols(code: u32) -> bool
 {
     is_between(0x4e00, 0x9fd5, code)
         || is_certain_wide(code)
-        || (0xe000 <= code && is_certain_narrow(code))
+        || (0xe000 <= code && is_high_narrow(code))
+}
+
+/// Returns whether terminals agree that the character with the given code, which must be at least
+/// U+3000, takes one column. These are private characters that Powerline uses, Arabic presentation
+/// forms, and halfwidth katakana.
+#[inline(never)]
+#[tactic(auto, unfolding(crate::specs::CertainParts::is_high_narrow))]
+fn is_high_narrow(code: u32) -> bool
+    ensures { result ≡ is_high_narrow code }
+{
+    is_between(0xe0a0, 0xe0a2, code)
+        || is_between(0xe0b0, 0xe0b3, code)
+        || is_between(0xfb50, 0xfbb1, code)
+        || is_between(0xfe70, 0xfe74, code)
+        || is_between(0xfe76, 0xfefc, code)
+        || is_between(0xff61, 0xff9d, code)
 }
 
 /// Returns whether `code` is in the inclusive range from `low` to `high`.
@@ -76,10 +93,22 @@ fn is_between(low: u32, high: u32, code: u32) -> bool
 
 /// Returns whether the character with the given code is a letter, a digit or punctuation of a
 /// script, other than those in ASCII, and terminals agree that it takes one column.
-#[inline(never)]
-#[tactic(auto, unfolding(crate::specs::Certain::is_certain_letter))]
+#[inline]
+#[tactic(auto, using(crate::proofs::Certainty::early_letter, crate::proofs::Certainty::late_letter))]
 fn is_certain_letter(code: u32) -> bool
     ensures { result ≡ is_certain_letter code }
+{
+    if code < 0x600 {
+        return is_early_letter(code);
+    }
+    is_late_letter(code)
+}
+
+/// Returns what [`is_certain_letter`] returns, for a code that is less than U+0600.
+#[inline(never)]
+#[tactic(auto, unfolding(crate::specs::CertainParts::is_early_letter))]
+fn is_early_letter(code: u32) -> bool
+    ensures { result ≡ is_early_letter code }
 {
     is_between(0xa1, 0xac, code)
         || is_between(0xae, 0x2ff, code)
@@ -93,7 +122,15 @@ fn is_certain_letter(code: u32) -> bool
         || is_between(0x531, 0x556, code)
         || is_between(0x561, 0x587, code)
         || is_between(0x5d0, 0x5ea, code)
-        || is_between(0x620, 0x64a, code)
+}
+
+/// Returns what [`is_certain_letter`] returns, for a code that is at least U+0600.
+#[inline(never)]
+#[tactic(auto, unfolding(crate::specs::CertainParts::is_late_letter))]
+fn is_late_letter(code: u32) -> bool
+    ensures { result ≡ is_late_letter code }
+{
+    is_between(0x620, 0x64a, code)
         || is_between(0x660, 0x66f, code)
         || is_between(0x671, 0x6d5, code)
         || is_between(0x904, 0x939, code)
@@ -139,15 +176,6 @@ fn is_certain_symbol(code: u32) -> bool
         || is_between(0x2800, 0x28ff, code)
         || is_between(0xe0a0, 0xe0a2, code)
         || is_between(0xe0b0, 0xe0b3, code)
-}
-
-/// Returns whether terminals agree that the character with the given code takes one column.
-#[inline(never)]
-#[tactic(auto, unfolding(crate::specs::Certain::is_certain_narrow))]
-fn is_certain_narrow(code: u32) -> bool
-    ensures { result ≡ is_certain_narrow code }
-{
-    is_between(0x20, 0x7e, code) || is_certain_symbol(code) || is_certain_letter(code)
 }
 
 /// Returns whether terminals agree that the character with the given code takes two columns.
@@ -220,8 +248,8 @@ pub fn is_certain_text(text: &str) -> bool
 fn is_certain_character(text: &str) -> bool
     ensures { result ≡ is_certain_text text.now }
 {
-    // A character has at most four bytes.
-    if text.len() > 4 {
+    // Terminals do not agree on the width of any character of four bytes.
+    if text.len() > 3 {
         return false;
     }
     let mut chars = text.chars();
