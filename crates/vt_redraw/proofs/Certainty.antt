@@ -9,62 +9,70 @@ use Rattle.std.proofs.lemmas.List.{length-append}
 use Rattle.std.proofs.lemmas.Str.{encodes-chars}
 use Rattle.vt_cells.proofs.Glyphs.{one_byte, two_bytes as encoded_in_two, three_bytes as encoded_in_three}
 use Rattle.vt_redraw.specs.Certain.{are_certain, is_between, is_certain, is_certain_letter, is_certain_narrow}
-use Rattle.vt_redraw.specs.Certain.{is_certain_symbol, is_certain_text, is_certain_wide}
-use Rattle.vt_redraw.specs.CertainParts.{is_early_letter, is_high_narrow, is_late_letter}
+use Rattle.vt_redraw.specs.Certain.{is_certain_symbol, is_certain_text, is_certain_wide, is_early_letter}
+use Rattle.vt_redraw.specs.Certain.{is_high_letter, is_late_letter, is_low_symbol, is_powerline}
 
 -- ---- the ranges that a part of the codes is or is not in
 
-low_symbol : (c : ℕ) → c < 0x2000 → is_certain_symbol c ≡ false
-unfolding is_certain_symbol
-low_symbol c less = grind (arith, nat_tests, less)
+no_early : (c : ℕ) → 0x600 ≤ c → is_early_letter c ≡ false
+unfolding is_early_letter
+no_early c from = grind (arith, nat_tests, from)
 
-low_wide : (c : ℕ) → c < 0x3000 → is_certain_wide c ≡ false
+no_late : (c : ℕ) → c < 0x600 → is_late_letter c ≡ false
+unfolding is_late_letter
+no_late c less = grind (arith, nat_tests, less)
+
+past_late : (c : ℕ) → 0x2000 ≤ c → is_late_letter c ≡ false
+unfolding is_late_letter
+past_late c from = grind (arith, nat_tests, from)
+
+no_high : (c : ℕ) → c < 0xE000 → is_high_letter c ≡ false
+unfolding is_high_letter
+no_high c less = grind (arith, nat_tests, less)
+
+past_high : (c : ℕ) → 0xFFFF < c → is_high_letter c ≡ false
+unfolding is_high_letter
+past_high c from = grind (arith, nat_tests, from)
+
+no_symbol : (c : ℕ) → c < 0x2000 → is_low_symbol c ≡ false
+unfolding is_low_symbol
+no_symbol c less = grind (arith, nat_tests, less)
+
+past_symbol : (c : ℕ) → 0x3000 ≤ c → is_low_symbol c ≡ false
+unfolding is_low_symbol
+past_symbol c from = grind (arith, nat_tests, from)
+
+no_powerline : (c : ℕ) → c < 0xE000 → is_powerline c ≡ false
+unfolding is_powerline
+no_powerline c less = grind (arith, nat_tests, less)
+
+past_powerline : (c : ℕ) → 0xFFFF < c → is_powerline c ≡ false
+unfolding is_powerline
+past_powerline c from = grind (arith, nat_tests, from)
+
+no_wide : (c : ℕ) → c < 0x3000 → is_certain_wide c ≡ false
 unfolding is_certain_wide
-low_wide c less = grind (arith, nat_tests, less)
+no_wide c less = grind (arith, nat_tests, less)
 
-middle_letter : (c : ℕ) → 0x2000 ≤ c → c < 0x3000 → is_certain_letter c ≡ false
-unfolding is_certain_letter
-middle_letter c from less = grind (arith, nat_tests, from, less)
+past_wide : (c : ℕ) → 0xFFFF < c → is_certain_wide c ≡ false
+unfolding is_certain_wide
+past_wide c from = grind (arith, nat_tests, from)
 
-high_letter : (c : ℕ) → 0x3000 ≤ c → c < 0xE000 → is_certain_letter c ≡ false
-unfolding is_certain_letter
-high_letter c from less = grind (arith, nat_tests, from, less)
+latin : (c : ℕ) → 0xAE ≤ c → c ≤ 0x2FF → is_early_letter c ≡ true
+unfolding is_early_letter
+latin c from upto = grind (arith, nat_tests, from, upto)
 
-high_symbol : (c : ℕ) → 0x3000 ≤ c → c < 0xE000 → is_certain_symbol c ≡ false
-unfolding is_certain_symbol
-high_symbol c from less = grind (arith, nat_tests, from, less)
+cyrillic : (c : ℕ) → 0x3A3 ≤ c → c ≤ 0x482 → is_early_letter c ≡ true
+unfolding is_early_letter
+cyrillic c from upto = grind (arith, nat_tests, from, upto)
 
-high_narrow : (c : ℕ) → 0x3000 ≤ c → c < 0xE000 → is_certain_narrow c ≡ false
-unfolding is_certain_narrow
-high_narrow c from less = rw (high_letter c from less, high_symbol c from less) (grind (arith, nat_tests, from))
+box : (c : ℕ) → 0x2500 ≤ c → c ≤ 0x25A9 → is_low_symbol c ≡ true
+unfolding is_low_symbol
+box c from upto = grind (arith, nat_tests, from, upto)
 
 ideograph : (c : ℕ) → 0x4E00 ≤ c → c ≤ 0x9FD5 → is_certain_wide c ≡ true
 unfolding is_certain_wide
 ideograph c from upto = grind (arith, nat_tests, from, upto)
-
-latin : (c : ℕ) → 0xAE ≤ c → c ≤ 0x2FF → is_certain_letter c ≡ true
-unfolding is_certain_letter
-latin c from upto = grind (arith, nat_tests, from, upto)
-
-cyrillic : (c : ℕ) → 0x3A3 ≤ c → c ≤ 0x482 → is_certain_letter c ≡ true
-unfolding is_certain_letter
-cyrillic c from upto = grind (arith, nat_tests, from, upto)
-
-box : (c : ℕ) → 0x2500 ≤ c → c ≤ 0x25A9 → is_certain_symbol c ≡ true
-unfolding is_certain_symbol
-box c from upto = grind (arith, nat_tests, from, upto)
-
-beyond_letter : (c : ℕ) → 0xFFFF < c → is_certain_letter c ≡ false
-unfolding is_certain_letter
-beyond_letter c from = grind (arith, nat_tests, from)
-
-beyond_symbol : (c : ℕ) → 0xFFFF < c → is_certain_symbol c ≡ false
-unfolding is_certain_symbol
-beyond_symbol c from = grind (arith, nat_tests, from)
-
-beyond_wide : (c : ℕ) → 0xFFFF < c → is_certain_wide c ≡ false
-unfolding is_certain_wide
-beyond_wide c from = grind (arith, nat_tests, from)
 
 -- ---- the certain characters of each part
 
@@ -72,65 +80,59 @@ or_none : (b : Bool) → (b || false) ≡ b
 or_none true = refl
 or_none false = refl
 
-no_late_letter : (c : ℕ) → c < 0x600 → is_late_letter c ≡ false
-unfolding is_late_letter
-no_late_letter c less = grind (arith, nat_tests, less)
-
 pub early_letter : (c : ℕ) → c < 0x600 → is_early_letter c ≡ is_certain_letter c
-unfolding is_certain_letter is_early_letter is_late_letter
-early_letter c less =
-    let none = no_late_letter c less in rw (none, or_none (is_between 0x5D0 0x5EA c)) refl
-
-pub late_letter : (c : ℕ) → 0x600 ≤ c → is_late_letter c ≡ is_certain_letter c
-unfolding is_certain_letter is_late_letter
-late_letter c from = grind (arith, nat_tests, from)
-
-no_ascii : (c : ℕ) → 0x3000 ≤ c → is_between 0x20 0x7E c ≡ false
-no_ascii c from = grind (arith, nat_tests, from)
-
-high_symbol_is : (c : ℕ) → 0x3000 ≤ c →
-    is_certain_symbol c ≡ (is_between 0xE0A0 0xE0A2 c || is_between 0xE0B0 0xE0B3 c)
-unfolding is_certain_symbol
-high_symbol_is c from = grind (arith, nat_tests, from)
-
-high_letter_is : (c : ℕ) → 0x3000 ≤ c →
-    is_certain_letter c
-    ≡ (is_between 0xFB50 0xFBB1 c || (is_between 0xFE70 0xFE74 c || (is_between 0xFE76 0xFEFC c || is_between 0xFF61 0xFF9D c)))
 unfolding is_certain_letter
-high_letter_is c from = grind (arith, nat_tests, from)
+early_letter c less = rw (no_late c less, no_high c (omega (arith, less)), or_none (is_early_letter c)) refl
 
-regrouped : (a b r : Bool) → (a || (b || r)) ≡ ((a || b) || r)
-regrouped true b r = refl
-regrouped false b r = refl
+pub late_letter : (c : ℕ) → 0x600 ≤ c → c < 0x2000 → is_late_letter c ≡ is_certain_letter c
+unfolding is_certain_letter
+late_letter c from less = rw (no_early c from, no_high c (omega (arith, less)), or_none (is_late_letter c)) refl
 
-high_narrow_is : (c : ℕ) → 0x3000 ≤ c → is_high_narrow c ≡ is_certain_narrow c
-unfolding is_certain_narrow is_high_narrow
-high_narrow_is c from =
-    rw (no_ascii c from, high_symbol_is c from, high_letter_is c from)
-    (regrouped (is_between 0xE0A0 0xE0A2 c) (is_between 0xE0B0 0xE0B3 c)
-    (is_between 0xFB50 0xFBB1 c || (is_between 0xFE70 0xFE74 c || (is_between 0xFE76 0xFEFC c || is_between 0xFF61 0xFF9D c))))
+high_letter : (c : ℕ) → 0x2000 ≤ c → is_certain_letter c ≡ is_high_letter c
+unfolding is_certain_letter
+high_letter c from = rw (no_early c (omega (arith, from)), past_late c from) refl
+
+low_symbol : (c : ℕ) → c < 0x3000 → is_certain_symbol c ≡ is_low_symbol c
+unfolding is_certain_symbol
+low_symbol c less = rw (no_powerline c (omega (arith, less)), or_none (is_low_symbol c)) refl
+
+high_symbol : (c : ℕ) → 0x3000 ≤ c → is_certain_symbol c ≡ is_powerline c
+unfolding is_certain_symbol
+high_symbol c from = rw (past_symbol c from) refl
 
 pub beyond : (c : ℕ) → 0xFFFF < c → is_certain c ≡ false
 unfolding is_certain_narrow
-beyond c from = rw (beyond_letter c from, beyond_symbol c from, beyond_wide c from) (grind (arith, nat_tests, from))
+beyond c from =
+    rw (
+      high_letter c (omega (arith, from)),
+      past_high c from,
+      high_symbol c (omega (arith, from)),
+      past_powerline c from,
+      past_wide c from,
+    ) (grind (arith, nat_tests, from))
 
 pub below_symbols : (c : ℕ) → c < 0x2000 →
     (is_between 0x20 0x7E c || (is_between 0xAE 0x2FF c || (is_between 0x3A3 0x482 c || is_certain_letter c)))
     ≡ is_certain c
-unfolding is_certain_narrow
+unfolding is_certain_narrow is_certain_letter
 below_symbols c less =
-    rw (low_symbol c less, low_wide c (omega (arith, less))) (grind (arith, nat_tests, latin c, cyrillic c))
+    rw (low_symbol c (omega (arith, less)), no_symbol c less, no_wide c (omega (arith, less)))
+    (grind (arith, nat_tests, latin c, cyrillic c))
 
 pub among_symbols : (c : ℕ) → 0x2000 ≤ c → c < 0x3000 →
-    (is_between 0x2500 0x25A9 c || is_certain_symbol c) ≡ is_certain c
+    (is_between 0x2500 0x25A9 c || is_low_symbol c) ≡ is_certain c
 unfolding is_certain_narrow
 among_symbols c from less =
-    rw (middle_letter c from less, low_wide c less) (grind (arith, nat_tests, box c, from))
+    rw (high_letter c from, no_high c (omega (arith, less)), low_symbol c less, no_wide c less)
+    (grind (arith, nat_tests, box c, from))
 
 pub after_symbols : (c : ℕ) → 0x3000 ≤ c →
-    (is_between 0x4E00 0x9FD5 c || (is_certain_wide c || (nat_le 0xE000 c && is_high_narrow c))) ≡ is_certain c
+    (is_between 0x4E00 0x9FD5 c || (is_certain_wide c || (nat_le 0xE000 c && (is_powerline c || is_high_letter c))))
+    ≡ is_certain c
+unfolding is_certain_narrow
 after_symbols c from =
-    rw (high_narrow_is c from) (grind (arith, nat_tests, high_narrow c from, ideograph c, from))
+    rw (high_letter c (omega (arith, from)), high_symbol c from)
+    (grind (arith, nat_tests, no_high c, no_powerline c, ideograph c, from))
 
 -- ---- texts of two and three bytes, and longer ones
 

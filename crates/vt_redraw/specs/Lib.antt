@@ -11,7 +11,6 @@ pub mod Limited
 pub mod Refusals
 -- Portable output
 pub mod Certain
-pub mod CertainParts
 pub mod Doubts
 pub mod Uses
 -- For models, private contracts and proofs only

@@ -1,9 +1,9 @@
 //! Characters on whose width terminals agree.
 
 ghost use Rattle.std.specs.Prelude.{◌≡◌, ◌<◌, ◌≤◌, [], ◌∷◌, chars};
-ghost use Rattle.vt_redraw.specs.Certain.{is_between, is_certain, is_certain_letter};
-ghost use Rattle.vt_redraw.specs.Certain.{is_certain_symbol, is_certain_text, is_certain_wide};
-ghost use Rattle.vt_redraw.specs.CertainParts.{is_early_letter, is_high_narrow, is_late_letter};
+ghost use Rattle.vt_redraw.specs.Certain.{is_between, is_certain, is_certain_letter, is_certain_text};
+ghost use Rattle.vt_redraw.specs.Certain.{is_certain_wide, is_early_letter, is_high_letter, is_late_letter};
+ghost use Rattle.vt_redraw.specs.Certain.{is_low_symbol, is_powerline};
 
 /// Returns whether terminals agree on the width of the character `c`.
 pub fn is_certain(c: char) -> bool
@@ -42,7 +42,7 @@ fn is_certain_below_symbols(code: u32) -> bool
     is_between(0x20, 0x7e, code)
         || is_between(0xae, 0x2ff, code)
         || is_between(0x3a3, 0x482, code)
-        || is_certain_letter(code)
+        || is_low_letter(code)
 }
 
 /// Returns whether terminals agree on the width of the character with the given code, which must be
@@ -52,7 +52,7 @@ fn is_certain_below_symbols(code: u32) -> bool
 fn is_certain_among_symbols(code: u32) -> bool
     ensures { 0x2000 ≤ code → code < 0x3000 → result ≡ is_certain code }
 {
-    is_between(0x2500, 0x25a9, code) || is_certain_symbol(code)
+    is_between(0x2500, 0x25a9, code) || is_low_symbol(code)
 }
 
 /// Returns whether terminals agree on the width of the character with the given code, which must be
@@ -64,20 +64,25 @@ fn is_certain_after_symbols(code: u32) -> bool
 {
     is_between(0x4e00, 0x9fd5, code)
         || is_certain_wide(code)
-        || (0xe000 <= code && is_high_narrow(code))
+        || (0xe000 <= code && (is_powerline(code) || is_high_letter(code)))
 }
 
-/// Returns whether terminals agree that the character with the given code, which must be at least
-/// U+3000, takes one column. These are private characters that Powerline uses, Arabic presentation
-/// forms, and halfwidth katakana.
-#[inline(never)]
-#[tactic(auto, unfolding(crate::specs::CertainParts::is_high_narrow))]
-fn is_high_narrow(code: u32) -> bool
-    ensures { result ≡ is_high_narrow code }
+/// Returns whether the character with the given code is a private character that Powerline uses.
+#[tactic(auto, unfolding(crate::specs::Certain::is_powerline))]
+fn is_powerline(code: u32) -> bool
+    ensures { result ≡ is_powerline code }
 {
-    is_between(0xe0a0, 0xe0a2, code)
-        || is_between(0xe0b0, 0xe0b3, code)
-        || is_between(0xfb50, 0xfbb1, code)
+    is_between(0xe0a0, 0xe0a2, code) || is_between(0xe0b0, 0xe0b3, code)
+}
+
+/// Returns whether the character with the given code is an Arabic presentation form or halfwidth
+/// katakana, and terminals agree that it takes one column.
+#[inline(never)]
+#[tactic(auto, unfolding(crate::specs::Certain::is_high_letter))]
+fn is_high_letter(code: u32) -> bool
+    ensures { result ≡ is_high_letter code }
+{
+    is_between(0xfb50, 0xfbb1, code)
         || is_between(0xfe70, 0xfe74, code)
         || is_between(0xfe76, 0xfefc, code)
         || is_between(0xff61, 0xff9d, code)
@@ -91,12 +96,13 @@ fn is_between(low: u32, high: u32, code: u32) -> bool
     low <= code && code <= high
 }
 
-/// Returns whether the character with the given code is a letter, a digit or punctuation of a
-/// script, other than those in ASCII, and terminals agree that it takes one column.
+/// Returns whether the character with the given code, which must be less than U+2000, is a letter, a
+/// digit or punctuation of a script, other than those in ASCII, and terminals agree that it takes one
+/// column.
 #[inline]
 #[tactic(auto, using(crate::proofs::Certainty::early_letter, crate::proofs::Certainty::late_letter))]
-fn is_certain_letter(code: u32) -> bool
-    ensures { result ≡ is_certain_letter code }
+fn is_low_letter(code: u32) -> bool
+    ensures { code < 0x2000 → result ≡ is_certain_letter code }
 {
     if code < 0x600 {
         return is_early_letter(code);
@@ -104,9 +110,9 @@ fn is_certain_letter(code: u32) -> bool
     is_late_letter(code)
 }
 
-/// Returns what [`is_certain_letter`] returns, for a code that is less than U+0600.
+/// Returns what [`is_low_letter`] returns, for a code that is less than U+0600.
 #[inline(never)]
-#[tactic(auto, unfolding(crate::specs::CertainParts::is_early_letter))]
+#[tactic(auto, unfolding(crate::specs::Certain::is_early_letter))]
 fn is_early_letter(code: u32) -> bool
     ensures { result ≡ is_early_letter code }
 {
@@ -124,9 +130,9 @@ fn is_early_letter(code: u32) -> bool
         || is_between(0x5d0, 0x5ea, code)
 }
 
-/// Returns what [`is_certain_letter`] returns, for a code that is at least U+0600.
+/// Returns what [`is_low_letter`] returns, for a code that is at least U+0600.
 #[inline(never)]
-#[tactic(auto, unfolding(crate::specs::CertainParts::is_late_letter))]
+#[tactic(auto, unfolding(crate::specs::Certain::is_late_letter))]
 fn is_late_letter(code: u32) -> bool
     ensures { result ≡ is_late_letter code }
 {
@@ -142,18 +148,14 @@ fn is_late_letter(code: u32) -> bool
         || is_between(0xe4f, 0xe5b, code)
         || is_between(0x10d0, 0x10fc, code)
         || is_between(0x1e00, 0x1eff, code)
-        || is_between(0xfb50, 0xfbb1, code)
-        || is_between(0xfe70, 0xfe74, code)
-        || is_between(0xfe76, 0xfefc, code)
-        || is_between(0xff61, 0xff9d, code)
 }
 
-/// Returns whether the character with the given code is a symbol or punctuation that belongs to no
-/// script, and terminals agree that it takes one column.
+/// Returns whether the character with the given code is from U+2000 to U+2FFF, a symbol or
+/// punctuation that belongs to no script, and terminals agree that it takes one column.
 #[inline(never)]
-#[tactic(auto, unfolding(crate::specs::Certain::is_certain_symbol))]
-fn is_certain_symbol(code: u32) -> bool
-    ensures { result ≡ is_certain_symbol code }
+#[tactic(auto, unfolding(crate::specs::Certain::is_low_symbol))]
+fn is_low_symbol(code: u32) -> bool
+    ensures { result ≡ is_low_symbol code }
 {
     is_between(0x2500, 0x25a9, code)
         || is_between(0x2010, 0x2027, code)
@@ -174,8 +176,6 @@ fn is_certain_symbol(code: u32) -> bool
         || is_between(0x2794, 0x2794, code)
         || is_between(0x2798, 0x27a0, code)
         || is_between(0x2800, 0x28ff, code)
-        || is_between(0xe0a0, 0xe0a2, code)
-        || is_between(0xe0b0, 0xe0b3, code)
 }
 
 /// Returns whether terminals agree that the character with the given code takes two columns.

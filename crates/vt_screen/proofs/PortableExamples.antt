@@ -9,6 +9,7 @@ use Rattle.vt_grid.specs.Moves.{line_feed}
 use Rattle.vt_grid.specs.Page.{blank_page}
 use Rattle.vt_grid.specs.Printing.{carries, mark_printed, room_made}
 use Rattle.vt_redraw.specs.Certain.{is_certain_letter, is_certain_narrow, is_certain_symbol, is_certain_wide}
+use Rattle.vt_redraw.specs.Certain.{is_early_letter, is_high_letter, is_late_letter, is_low_symbol, is_powerline}
 use Rattle.vt_redraw.specs.Doubts.{Unsure, doubts_of, no_doubts}
 use Rattle.vt_rows.specs.Cells.{put_cells}
 use Rattle.vt_scan.specs.Automaton.{character_step, fresh_step, start}
@@ -154,8 +155,8 @@ wide_deleted p = let met = p.1.0.1 in cc
 -- U+0301 joins the e before it. A character may follow this glyph only after CUP.
 after_combining : Agrees blanks (0x65 ∷ 0xCC ∷ 0x81 ∷ 0x78 ∷ []) → ⊥
 unfolding fresh_step character_step class_of columns_of unicode_width character_steps room_made is_certain_narrow
-    is_certain_letter is_certain_symbol is_certain_wide put_cells mark_printed carries is_wide_text is_beginning
-    is_character
+    is_certain_letter is_early_letter is_late_letter is_high_letter is_certain_symbol is_low_symbol is_powerline
+    is_certain_wide put_cells mark_printed carries is_wide_text is_beginning is_character
 after_combining p = let met = p.1.1.0.0 in cc
 
 position_after_combining : Agrees blanks (0x65 ∷ 0xCC ∷ 0x81 ∷ 0x1B ∷ 0x5B ∷ 0x31 ∷ 0x3B ∷ 0x32 ∷ 0x48 ∷ 0x78 ∷ [])
