@@ -83,6 +83,7 @@ pub fn sizes<CB: Callbacks>()
 /// by `Parser::new`, `Parser::default` or `Parser::new_with_callbacks`. They
 /// follow from the clauses `ground` and `shown` of these functions and the
 /// clause `whole` of `Screen::size`.
+#[tactic(auto, using(crate::proofs::PlainParsers::fresh_cols, crate::proofs::PlainParsers::fresh_parser, crate::proofs::PlainParsers::fresh_rows, crate::proofs::PlainParsers::plain_parser))]
 pub fn fresh_parsers<CB: Callbacks>()
     ensures fresh { (rows cols capacity : ℕ) (p : ParserValue CB) → IsScreen p.screen → StandsFor p.scanner start
         → p ≡ parser_value p.scanner (fresh_screen rows cols capacity) p.callbacks

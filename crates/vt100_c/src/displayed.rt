@@ -259,6 +259,7 @@ fn fill_row(screen: &Screen, row: u16, out: &mut [VtCell])
 }
 
 /// Returns the displayed cell at `row` and `col`, or a blank cell if the row has no such column.
+#[tactic(auto, using(crate::proofs::Showing::past))]
 fn shown_cell(screen: &Screen, row: u16, col: u16) -> VtCell
     requires { row < length screen.now.page.rows }
     ensures { result ≡ cell_for_c (shown_cell row col screen.now) }

@@ -13,6 +13,7 @@ ghost use Rattle.vt100_c.specs.Walking.{ArePlacesOfPieces, ArePlacesOfRows, Find
 /// - `rows`: calls to `vt100_next_row` find all rows. The first call starts at byte 0, and each
 ///   later call starts at the index that the previous call stored, until a call stores `SIZE_MAX`.
 ///   A string in memory is always shorter than `SIZE_MAX` bytes.
+#[tactic(auto, using(crate::proofs::Walking::whole_pieces, crate::proofs::Walking::whole_rows))]
 pub fn whole_captures()
     ensures pieces { (text : List ℕ) (places : List (ℕ × ℕ)) →
         FindAllPlain text 0 places → ArePlacesOfPieces text places }

@@ -42,6 +42,7 @@ use vt100::Callbacks;
 /// `vt100::laws::quiet_pieces`. The premise that the viewer's screen is valid
 /// (`IsScreen`) holds for every parser, by the clause `whole` of
 /// `Screen::size`.
+#[tactic(auto, using(crate::proofs::Watching::numbers_count, crate::proofs::Watching::viewer_shows))]
 pub fn viewers<CB: Callbacks>()
     ensures shows { (number : ℕ) (calls : List MirrorCall) (old new : Watching CB) →
         IsFresh old.mirror → IsNew old → FoldsTo (Goes number) old calls new → ShowsSeen new }
@@ -59,6 +60,7 @@ pub fn viewers<CB: Callbacks>()
 /// The viewer is a plain terminal even if the screen at its last update was not
 /// steady. The viewer may be any parser that [`viewers`] allows and whose calls
 /// to `process` and `set_size` all return `Ok`.
+#[tactic(auto, using(crate::proofs::Healing::viewer_heals))]
 pub fn heals<CB: Callbacks>()
     ensures shows { (number : ℕ) (calls : List MirrorCall) (old new : Watching CB) →
         IsFresh old.mirror → IsNew old → FoldsTo (GoesAny CB.does number) old calls new → ShowsSteady new }

@@ -249,6 +249,7 @@ impl Mirror {
     /// On error, nothing is changed, and the same update can be requested
     /// again. There is no error if the viewer is up to date and the screen is
     /// steady; without `scroll`, the screen need not be steady (clause `never`).
+    #[tactic(auto, using(crate::proofs::Bookkeeping::portable_update))]
     pub fn update_with(
         &mut self,
         viewer: u64,

@@ -225,6 +225,7 @@ fn write_over_blanks<S: Sink>(
 }
 
 /// Returns whether the picture's row directly above row `row` is wrapped.
+#[tactic(auto, using(crate::proofs::WriterSteps::linked_below))]
 fn is_linked(view: &View<'_>, row: u16) -> bool
     requires { row < length view.now.rows }
     ensures { result ≡ is_linked view.now.width view.now.rows row }

@@ -32,6 +32,7 @@ ghost use Rattle.vt_redraw.specs.declared.form.Form.TheVariants.{Portable};
 /// States that drawing the diff between two pictures on a plain canvas that displays the first
 /// picture makes the canvas display the second. The second picture must be steady. Apart from what
 /// is displayed, only the saved cursor, saved origin mode and saved attributes may change.
+#[tactic(auto, using(crate::proofs::Difference::difference_draws))]
 pub fn difference_draws()
     ensures { (self prev : Picture) → (any : Canvas) → IsPicture self → IsSteady self →
         IsPicture prev → SamePictureSize self prev → IsPlainPage any.page → picture_of any ≡ prev →
@@ -40,6 +41,7 @@ pub fn difference_draws()
 
 /// States that the diff from one picture to another touches only rows that differ, the rows
 /// directly below them, and possibly the end of one row. The second picture must be steady.
+#[tactic(auto, using(crate::proofs::Difference::difference_local))]
 pub fn difference_local()
     ensures { (self prev : Picture) → (any : Canvas) → IsPicture self → IsSteady self →
         IsPicture prev → SamePictureSize self prev → IsPlainPage any.page →
@@ -47,6 +49,7 @@ pub fn difference_local()
 {}
 
 /// States that the diff from a picture to itself is empty.
+#[tactic(auto, using(crate::proofs::Redrawing::difference_self))]
 pub fn difference_self()
     ensures { (picture : Picture) → difference picture picture ≡ [] }
 {}
@@ -61,6 +64,7 @@ pub fn empty_only()
 /// States that a plain canvas displays a steady picture of its size after a redraw of the picture
 /// has been drawn on it. Apart from what is displayed, only the saved cursor, origin mode and
 /// attributes may change.
+#[tactic(auto, using(crate::proofs::Redrawing::redraw_draws))]
 pub fn redraw_draws()
     ensures { (self : Picture) → (any : Canvas) → IsPicture self → IsSteady self →
         IsPicture (picture_of any) → IsPlainPage any.page → SamePictureSize self (picture_of any) →
@@ -70,6 +74,7 @@ pub fn redraw_draws()
 /// States that terminals agree on the effect of the portable diff between two pictures, if they
 /// display the first picture on a plain canvas and differ at most in what may differ while they
 /// display it. The second picture must be steady.
+#[tactic(auto, using(crate::proofs::PortableScript::difference_portable))]
 pub fn difference_portable()
     ensures { (self prev : Picture) → (any : Canvas) → IsPicture self → IsSteady self →
         IsPicture prev → SamePictureSize self prev → IsPlainPage any.page → picture_of any ≡ prev →
@@ -78,6 +83,7 @@ pub fn difference_portable()
 
 /// States that terminals with a plain canvas of a steady picture's size agree on the effect of the
 /// portable redraw of the picture, whatever they display and differ in before.
+#[tactic(auto, using(crate::proofs::PortableScript::redraw_portable))]
 pub fn redraw_portable()
     ensures { (self : Picture) → (any : Canvas) → (doubts : Doubts) → IsPicture self → IsSteady self →
         IsPicture (picture_of any) → IsPlainPage any.page → SamePictureSize self (picture_of any) →
@@ -96,6 +102,7 @@ pub fn redraws_only()
 /// the diff from the picture before it. All pictures must be steady and have the size of the
 /// canvas. Apart from what is displayed, only the saved cursor, origin mode and attributes may
 /// change.
+#[tactic(auto, using(crate::proofs::Redrawing::chain_draws))]
 pub fn chain_draws()
     ensures { (self : Picture) → (nexts : List Picture) → (any : Canvas) →
         IsOfSize any.page.width (length any.page.rows) self →
@@ -108,6 +115,7 @@ pub fn chain_draws()
 
 /// States that each operation in a diff contains only numbers and text that a
 /// terminal parses back unchanged.
+#[tactic(auto, using(crate::proofs::PictureFits::difference_fits))]
 pub fn difference_fits()
     ensures { (self prev : Picture) → IsPicture self → IsColoredPicture self →
         FitsAttrs prev.attrs → AllByRecursion Fits (difference self prev) }
@@ -115,12 +123,14 @@ pub fn difference_fits()
 
 /// States that each operation in a redraw contains only numbers and text that a
 /// terminal parses back unchanged.
+#[tactic(auto, using(crate::proofs::PictureFits::redraw_fits))]
 pub fn redraw_fits()
     ensures { (self : Picture) → IsPicture self → IsColoredPicture self → AllByRecursion Fits (redraw self) }
 {}
 
 /// States that each operation in the output for the cursor contains only
 /// numbers and text that a terminal parses back unchanged.
+#[tactic(auto, using(crate::proofs::PictureFits::cursor_state_fits))]
 pub fn cursor_state_fits()
     ensures { (self : Picture) → IsPicture self → IsColoredPicture self → AllByRecursion Fits (cursor_state self) }
 {}
@@ -128,6 +138,7 @@ pub fn cursor_state_fits()
 /// States that the output for the cursor gives a plain canvas the picture's cursor position, and
 /// hides or shows the cursor as in the picture. The picture must be steady. The canvas must display
 /// the rows of the picture and have default attributes.
+#[tactic(auto, using(crate::proofs::Difference::cursor_state_draws))]
 pub fn cursor_state_draws()
     ensures { (self : Picture) → (any : Canvas) → IsPicture self → IsSteady self → IsPlainPage any.page →
         any.page.rows ≡ self.rows → any.page.width ≡ self.width → any.attrs ≡ default_attrs →
@@ -136,6 +147,7 @@ pub fn cursor_state_draws()
 
 /// States that the output for the cursor of a steady picture touches at most
 /// the end of one row.
+#[tactic(auto, using(crate::proofs::Difference::cursor_state_local))]
 pub fn cursor_state_local()
     ensures { (self : Picture) → (any : Canvas) → IsPicture self → IsSteady self →
         IsPlainPage any.page → any.page.rows ≡ self.rows → any.page.width ≡ self.width →
@@ -144,17 +156,20 @@ pub fn cursor_state_local()
 
 /// States that a picture without U+FE0F in its glyphs is steady, whatever the
 /// widths of its characters.
+#[tactic(auto, using(crate::proofs::SteadyWithout::picture_steady))]
 pub fn steady_without_selectors()
     ensures { (picture : Picture) → IsPicture picture → HasNoSelector picture → IsSteady picture }
 {}
 
 /// States that the glyph U+2764 U+FE0F is steady in a row of two or more
 /// columns.
+#[tactic(auto, using(crate::proofs::SteadyWithout::heart_is_steady))]
 pub fn heart_steady()
     ensures { (width : ℕ) → (attrs : Attrs) → 1 < width → IsSteadyCell width (glyph heart_text true attrs) }
 {}
 
 /// States that a range of columns that covers a whole row cuts no wide character in two.
+#[tactic(auto, using(crate::proofs::ItemRanges::whole_cuts_none))]
 pub fn whole_cuts_none()
     ensures { (self : Picture) → (r : ℕ) → IsPicture self → r < length self.rows →
         CutsNone 0 self.width (row_of_picture self r).cells }
@@ -165,6 +180,7 @@ pub fn whole_cuts_none()
 /// attributes may change. The canvas must be plain and have default attributes, its row must be the
 /// old row, and its cursor must be at the start of the range. The new picture must be steady, and
 /// the range must cut no wide character in two.
+#[tactic(auto, using(crate::proofs::ItemDraws::difference_item_draws))]
 pub fn difference_item_draws()
     ensures { (self : Picture) → (r start stop : ℕ) → (y : RowValue) → (any : Canvas) → IsPicture self → IsSteady self →
         AwaitsItem self r start y any → start ≤ stop → stop ≤ self.width →
@@ -176,6 +192,7 @@ pub fn difference_item_draws()
 
 /// States that drawing the diff for a whole row leaves the canvas row unwrapped
 /// if the row is not wrapped in the new picture.
+#[tactic(auto, using(crate::proofs::ItemRanges::item_off))]
 pub fn difference_item_off()
     ensures { (r width : ℕ) → (x y : RowValue) → length x.cells ≡ width →
         x.wrapped ≡ false → (changed_row r 0 width x y).wrapped ≡ false }
@@ -183,6 +200,7 @@ pub fn difference_item_off()
 
 /// States that the diff for a whole row is empty if and only if the row is the
 /// same in both pictures.
+#[tactic(auto, using(crate::proofs::ItemRanges::difference_item_empty))]
 pub fn difference_item_empty()
     ensures { (self prev : Picture) → (r : ℕ) → IsPicture self → IsPicture prev → SamePictureSize self prev →
         r < length self.rows →
@@ -195,6 +213,7 @@ pub fn difference_item_empty()
 /// change. The canvas must be plain and have default attributes, its row must consist of default
 /// blanks, and its cursor must be at the start of the range. The picture must be steady, and the
 /// range must cut no wide character in two.
+#[tactic(auto, using(crate::proofs::ItemDraws::redraw_item_draws))]
 pub fn redraw_item_draws()
     ensures { (self : Picture) → (r start stop : ℕ) → (linked : Bool) → (any : Canvas) → IsPicture self →
         IsSteady self → AwaitsItem self r start (blank_row default_attrs self.width) any → start ≤ stop →
@@ -207,6 +226,7 @@ pub fn redraw_item_draws()
 /// States that the redraw for a whole row, drawn while a wrap is pending after a glyph at the end
 /// of the row above, draws the row and makes the row above wrapped. The canvas must be plain and
 /// have default attributes, its row must consist of default blanks, and the picture must be steady.
+#[tactic(auto, using(crate::proofs::ItemDraws::redraw_item_wraps))]
 pub fn redraw_item_wraps()
     ensures { (self : Picture) → (r : ℕ) → (above : RowValue) → (any : Canvas) → IsPicture self → IsSteady self →
         AwaitsItem self r self.width above any → ends_blank above.cells ≡ false → r + 1 < length self.rows →
@@ -218,6 +238,7 @@ pub fn redraw_item_wraps()
 
 /// States that each operation in the diff for a range of columns contains only
 /// numbers and text that a terminal parses back unchanged.
+#[tactic(auto, using(crate::proofs::PictureFits::difference_item_fits))]
 pub fn difference_item_fits()
     ensures { (self : Picture) → (r start stop : ℕ) → (y : RowValue) → IsPicture self →
         IsColoredPicture self → r < length self.rows → start ≤ stop → stop ≤ self.width →
@@ -226,6 +247,7 @@ pub fn difference_item_fits()
 
 /// States that each operation in the redraw for a range of columns contains
 /// only numbers and text that a terminal parses back unchanged.
+#[tactic(auto, using(crate::proofs::PictureFits::redraw_item_fits))]
 pub fn redraw_item_fits()
     ensures { (self : Picture) → (r start stop : ℕ) → (linked : Bool) → IsPicture self →
         IsColoredPicture self → r < length self.rows → start ≤ stop → stop ≤ self.width →

@@ -153,6 +153,7 @@ fn are_steady(cells: &[Cell], cols: u16) -> bool
 /// Returns whether a cell is not a glyph, or is a glyph that reproduces itself
 /// when it is printed on a blank row of `cols` columns.
 #[inline]
+#[tactic(auto, using(crate::proofs::SteadyTests::cell_without))]
 fn is_steady_cell(cell: &Cell, cols: u16) -> bool
     requires { FitsColumns cols cell.now }
     ensures { IsTrue result ↔ IsSteadyCell cols cell.now }

@@ -33,6 +33,7 @@ ghost use Rattle.vt_screen.specs.declared.repeat.Repeat.{Repeat};
 /// (clause `own`). Displayed rows of scrollback are cut to the screen's width. Even then, all cells
 /// left of the last column are the cells that the getters return (clause `inner`). A wide character
 /// that is cut in two at the last column is displayed as a blank.
+#[tactic(auto, using(crate::proofs::Shown::shown_cell, crate::proofs::Shown::shown_rows, crate::proofs::Shown::size_from_shown, crate::proofs::Shown::shown_height, crate::proofs::Shown::shown_is, crate::proofs::Shown::same_shown))]
 pub fn shown_is()
     ensures picture { (screen : ScreenValue) → IsScreen screen → IsPicture (display screen) }
     ensures rows { (screen : ScreenValue) → length (display screen).rows ≡ length screen.page.rows }
@@ -51,6 +52,7 @@ pub fn shown_is()
 /// cursor is hidden, and the cells left of the last column. If neither screen
 /// displays scrollback, they also agree on the cells of all displayed rows, on
 /// which rows are wrapped, and on the text of the screen and of each range.
+#[tactic(auto, using(crate::proofs::Shown::same_between, crate::proofs::Shown::same_cell_shown, crate::proofs::Shown::same_contents, crate::proofs::Shown::same_row, crate::proofs::Shown::same_rows, crate::proofs::Shown::size_of_shown))]
 pub fn same_shown()
     ensures size { (screen other : ScreenValue) → display screen ≡ display other → SameSize screen.page other.page }
     ensures row { (screen other : ScreenValue) → display screen ≡ display other → screen.page.row ≡ other.page.row }
@@ -140,6 +142,7 @@ pub fn streams()
 /// old width. For example, print `abc` on a screen with two rows, one column and a scrollback of
 /// one row. The row of `a` is then in scrollback, one column wide and wrapped, and it stays that
 /// way when the screen gets more columns.
+#[tactic(auto, using(crate::proofs::StepEvents::wide_cleared, crate::proofs::StepEvents::wide_fresh, crate::proofs::StepEvents::wide_resized, crate::proofs::StepEvents::wide_run, crate::proofs::StepEvents::wide_view))]
 pub fn wide_flags()
     ensures fresh { (rows cols capacity : ℕ) → HasWideFlags (fresh_screen rows cols capacity) }
     ensures run { (scan : State) (screen : ScreenValue) (bytes : List ℕ) → IsScreen screen →

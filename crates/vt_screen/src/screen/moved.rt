@@ -76,6 +76,7 @@ impl Screen {
     /// // three rows of four columns: from `one`, `two`, `six` to `two`, `six`
     /// assert_eq!(screen.contents_diff_scrolling(&prev)?, "\x1b[H\x1b[M\n\n");
     /// ```
+    #[tactic(auto, using(crate::proofs::MadeContents::none_refused, crate::proofs::ReadRedraws::difference_none))]
     pub fn contents_diff_scrolling(&self, prev: &Screen) -> Result<String, Error>
         requires { SameSize self.now.page prev.now.page }
         ensures text { IfText result (IsMovingOrRedraw (display self.now) (display prev.now)) }
