@@ -1,12 +1,12 @@
 -- Printing a run of characters that fits on the cursor's row has the effect of reading its bytes one by one.
 use Rattle.std.proofs.Common.{◌≡◌, ℕ, ◌+◌, ◌<◌, ◌≤◌, ◌==◌, ◌&&◌, ◌||◌, nat_le, false, Some, List, [], ◌∷◌, length, refl}
-use Rattle.std.proofs.Common.{sym, ap, subst, arith, ◌≢◌, ◌*◌, None, map, inl, inr, zero, suc, ◌-◌, replicate, ◌∙◌}
+use Rattle.std.proofs.Common.{sym, ap, subst, arith, get_or, take, ◌≢◌, ◌*◌, None, map, inl, inr, zero, suc, ◌-◌, replicate, ◌∙◌}
 use Rattle.std.specs.Prelude.{All}
 use Rattle.std.specs.List.{FoldsTo}
 use Rattle.std.proofs.lemmas.Bool.Decides.{nat_tests}
 use Rattle.std.proofs.lemmas.List.Elements.{All-head, All-tail}
 use Rattle.std.proofs.lemmas.Bool.{cases_lt}
-use Rattle.std.proofs.lemmas.List.{replicate-append-replicate}
+use Rattle.std.proofs.lemmas.List.{get_or-take, length-take, replicate-append-replicate}
 use Rattle.unicode_width.specs.Width.{char_width}
 use Rattle.vt_cells.specs.Glyph.{columns_of}
 use Rattle.vt_cells.proofs.Glyphs.{columns_of-ascii, columns_of-low}
@@ -27,6 +27,15 @@ use Rattle.vt100.specs.Parser.{Ran, parser_value, stage}
 use Rattle.vt100.specs.Internals.{Does, Stops}
 use Rattle.vt100.proofs.Stepping.{printed_steps, Left, left_through}
 use Rattle.vt100.proofs.Running.{byte_ran, one_character, ran_then}
+
+-- If a text begins with a byte that reads itself, the longest run of such bytes in any part of it is not empty.
+pub some_taken : (held : ScannerValue) (bytes : List ℕ) (fitting count : ℕ) → 0 < fitting → 0 < length bytes →
+    ReadsItself held (get_or bytes 0 0) →
+    (count < length (take fitting bytes) → ReadsItself held (get_or (take fitting bytes) count 0) → ⊥) → 0 < count
+some_taken held bytes fitting zero some nonempty itself longest =
+    absurd (longest (omega (arith, length-take fitting bytes, some, nonempty))
+    (subst (ReadsItself held) (sym (get_or-take fitting bytes 0 0 some)) itself))
+some_taken held bytes fitting (suc count) some nonempty itself longest = omega arith
 
 -- ==== Printing ASCII text that fits on the cursor's row has the effect of reading its bytes one by one.
 

@@ -250,14 +250,15 @@ fn print_some<CB: Callbacks>(
     ensures read { ReadsOrStops CB.does (parser_value scanner.now screen.old callbacks.old) bytes.now
         (parser_value scanner.now screen.new callbacks.new) result }
 {
-    let fitting = bytes.len().min(usize::from(printing::room(screen)));
-    let count = scanner.text_len(&bytes[..fitting]);
-    if count == 0 {
+    let room = usize::from(printing::room(screen));
+    if room == 0 {
         return match print_apart(screen, callbacks, char::from(bytes[0])) {
             Ok(()) => Ok(1),
             Err(_) => Err(0),
         };
     }
+    let fitting = bytes.len().min(room);
+    let count = scanner.text_len(&bytes[..fitting]);
     printing::print_text(screen, &bytes[..count]);
     Ok(count)
 }
@@ -297,26 +298,27 @@ fn print_run(scanner: &Scanner, screen: &mut Screen, bytes: &[u8]) -> usize
     requires { 0 < length bytes.now }
     ensures { ReadsSilently scanner.now screen.old bytes.now result screen.new }
 {
-    // The most common combining characters begin with CC or CD. They end a run at once, so trying
-    // to print a run would cost more than it saves.
-    let may_combine = bytes[0] == 0xCC || bytes[0] == 0xCD;
-    if bytes[0] >= 0xC2 && bytes[0] < 0xE3 && !may_combine {
-        return print_narrow_run(scanner, screen, bytes);
+    match bytes[0] {
+        // The most common combining characters begin with CC or CD. They end a run at once, so
+        // trying to print a run would cost more than it saves.
+        0xc2..=0xcb | 0xce..=0xe2 => print_narrow_run(scanner, screen, bytes),
+        0xe3..=0xed => print_wide_run(scanner, screen, bytes),
+        _ => 0,
     }
-    if bytes[0] >= 0xE3 && bytes[0] <= 0xED {
-        return print_wide_run(scanner, screen, bytes);
-    }
-    0
 }
 
 /// Prints a run of at most 64 three-byte wide characters from the start of `bytes`, stopping at the
 /// end of the cursor's row. Returns the number of bytes read, which is 0 if nothing was printed.
 ///
-/// This function is never inlined, so that its buffer takes up stack space only while it runs.
+/// This function is never inlined, so that its buffer takes up stack space only while it runs. The
+/// buffer is not filled if the row has no room for a wide character.
 #[inline(never)]
 fn print_wide_run(scanner: &Scanner, screen: &mut Screen, bytes: &[u8]) -> usize
     ensures { ReadsSilently scanner.now screen.old bytes.now result screen.new }
 {
+    if printing::room(screen) < 2 {
+        return 0;
+    }
     let mut text = ['\0'; RUN];
     print_wide_some(scanner, screen, bytes, &mut text)
 }

@@ -142,9 +142,8 @@ impl Flat {
         ensures lines { self.new.lines.items
             ≡ slice_set self.old.lines.items row (record (line_at self.old.lines.items row) { wrapped = wrapped }) }
     {
-        let mut line = *self.lines.get(row);
-        line.wrapped = wrapped;
-        self.lines.set(row, line);
+        let used = self.lines.get(row).used;
+        self.set_entry(row, used, wrapped);
     }
 
     /// Rotates rows `from..to` upward by `count`, together with their wrapped flags. Only the row

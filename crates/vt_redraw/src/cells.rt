@@ -200,7 +200,8 @@ fn gather_run<S: Sink>(
 pub fn wrapped_after_glyph(wrapped: bool, wide: bool, over: &PictureRow<'_>, col: u16) -> bool
     ensures { result ≡ wrapped_after_glyph wrapped wide (drop col over.now.cells) }
 {
-    wrapped && !(wide && over.is_torn(col))
+    // In a loop, this order of the tests costs the fewest instructions.
+    wrapped && !(over.is_torn(col) && wide)
 }
 
 /// Returns whether the terminal's row is still wrapped after erasing a run of columns that ends just
