@@ -96,20 +96,21 @@ class Page(unittest.TestCase):
         self.addCleanup(process.kill)
         return process, [re.search(r"http:\S+", process.stdout.readline())[0] for _ in range(2)]
 
-    def _open(self, script, urls, picture=None):
-        """Returns what a script finds on the page."""
+    def _open(self, check, urls, picture=None):
+        """Returns what a check finds on the page: the name of a script and its first arguments."""
         path = os.environ.get("SHARE_PICTURE")
         pictures = [path.replace(".png", picture + ".png")] if path and picture is not None else []
-        command = ["node", os.path.join(TESTS, script), *urls, *pictures]
+        script, *words = check.split()
+        command = ["node", os.path.join(TESTS, script), *words, *urls, *pictures]
         found = json.loads(subprocess.check_output(command, timeout=60))
         self.assertEqual(found["messages"], [])
         return found
 
-    def _check(self, script, program, *options, picture=None):
-        """Shares a program until a script has found what it reports."""
+    def _check(self, check, program, *options, picture=None):
+        """Shares a program until a check has found what it reports."""
         with tempfile.TemporaryDirectory() as folder:
             process, urls = self._start(folder, program, *options)
-            found = self._open(script, urls, picture)
+            found = self._open(check, urls, picture)
             process.terminate()
             self.assertEqual(process.wait(10), 128 + 15)
         return found
@@ -117,7 +118,7 @@ class Page(unittest.TestCase):
     def test_the_page_shows_the_screen_and_types(self):
         with tempfile.TemporaryDirectory() as folder:
             process, urls = self._start(folder, PROGRAM)
-            found = self._open("share_page.mjs", urls, "")
+            found = self._open("share_page.mjs type", urls, "")
             self.assertEqual(process.wait(10), 4)
         self.assertEqual(found["read"], "ready \u65e5\u672c \u250c\u2500")
         self.assertEqual((found["title"], found["status"]), ("a title", ""))
@@ -127,7 +128,7 @@ class Page(unittest.TestCase):
         self.assertEqual(found["end"], "The program has ended with status 4.")
 
     def test_the_mouse_is_the_program_s_unless_shift_is_held(self):
-        found = self._check("share_mouse.mjs", MOUSE_PROGRAM)
+        found = self._check("share_page.mjs mouse", MOUSE_PROGRAM)
         reports = "<18;5;3M <18;5;3m <0;5;3M <32;8;4M <0;8;4m <65;8;4M".split()
         self.assertEqual(found["reports"], "ready\n" + "".join("^[[" + one for one in reports))
         self.assertEqual((found["readerSelects"], found["writerSelects"]), ("ready", "ready"))
@@ -140,13 +141,13 @@ class Page(unittest.TestCase):
             for name in ("alpha", "beta"):
                 os.mkdir(os.path.join(home, name))
             program = f"cd {home} && HOME={home} exec mc -u -x"
-            found = self._check("share_mc.mjs", program, picture="-mc")
+            found = self._check("share_page.mjs mc", program, picture="-mc")
             self.assertTrue(os.path.isdir(os.path.join(home, "gamma")))
             self.assertFalse(os.path.exists(os.path.join(home, "beta")))
         self.assertIn("/gamma", found["contents"])
 
     def test_rows_that_have_scrolled_off(self):
-        found = self._check("share_scrollback.mjs", SCROLLED_PROGRAM, "--scrollback", "100")
+        found = self._check("share_page.mjs scrollback", SCROLLED_PROGRAM, "--scrollback", "100")
         # Of 300 numbers, the last 23 are on the screen, above the empty row of the cursor.
         self.assertEqual((found["kept"], found["bottom"], found["oldest"]), (100, 278, 178))
         self.assertEqual((found["page"], found["shown"]), (24, "24 rows back"))
@@ -156,7 +157,7 @@ class Page(unittest.TestCase):
         self.assertEqual(found["typed"], 2)
 
     def test_taps_and_sweeps_are_those_of_a_mouse(self):
-        found = self._check("share_tap.mjs", MOUSE_PROGRAM)
+        found = self._check("share_page.mjs tap", MOUSE_PROGRAM)
         self.assertTrue(found["tapped"].startswith("ready\n^[[<0;10;4M^[[<0;10;4m"))
         self.assertEqual((found["focus"], found["keyboard"]), ("", "input"))
         self.assertRegex(found["swept"], r"\^\[\[<65;5;\d+M")
@@ -171,7 +172,7 @@ class Page(unittest.TestCase):
 
     def test_a_phone(self):
         options = ("--scrollback", "1000")
-        found = self._check("share_phone.mjs", PHONE_PROGRAM, *options, picture="-phone")
+        found = self._check("share_page.mjs phone", PHONE_PROGRAM, *options, picture="-phone")
         self.assertEqual((found["readerKeys"], found["writerKeys"]), ("none", "flex"))
         self.assertEqual(found["width"], 390)
         self.assertEqual((found["focus"], found["focusAfter"]), ("input", "input"))
