@@ -22,7 +22,7 @@ ALLOWED = (
     ("bindings/README.md", "behind", "what a header hides"),
 )
 COMMENT = {".rt": r"(?:^|\s)//[/!]? ?(.*)$", ".antt": r"(?:^|\s)-- ?(.*)$"}
-PLACES = ("README.md", "docs/*.md", "crates/*/*.md", "bindings/*.md", "bindings/*/*.md", "crates/*/src/**/*.rt",
+PLACES = ("README.md", "docs/*.md", "crates/*.md", "crates/*/*.md", "bindings/*.md", "bindings/*/*.md", "crates/*/src/**/*.rt",
           "crates/*/specs/**/*.antt", "crates/*/proofs/**/*.antt")
 
 
