@@ -6,7 +6,7 @@ ghost use Rattle.vt100.specs.Pieces.{IsPlainParser};
 ghost use Rattle.example_contracts.specs.Failing.{HasSides, IsFailure, IsLateFailure};
 ghost use Rattle.example_contracts.specs.Remote.{ShowsScreen};
 ghost use Rattle.vt_cells.specs.Refusals.{OnlyOutOfMemory};
-ghost use Rattle.vt_mirror.specs.Viewers.{is_viewer, next_number};
+ghost use Rattle.vt_mirror.specs.Mirror.{is_viewer, next_number};
 ghost use Rattle.vt_mirror.specs.Watching.{IsFresh, ReadsText, TakesUpdate, TakesSize};
 ghost use Rattle.vt_redraw.specs.Steady.{IsSteady};
 ghost use Rattle.vt_screen.specs.Shown.{display};

@@ -1,13 +1,18 @@
--- The cells of all displayed rows, one row after the other.
-use Rattle.std.proofs.Common.{◌≡◌, ◌<◌, ◌≤◌, ◌+◌, ◌-◌, ◌*◌, ◌∙◌, ◌++◌, ℕ, List, ap, sym, drop, take, length, get_or, arith, inl, inr}
-use Rattle.std.proofs.Math.Nat.{mul-le-mul_right}
+-- Cells as C reads them: the text of a cell in its array, the blank that stands for a cell that a row lacks, and the cells
+-- of all displayed rows, one row after the other.
+use Rattle.std.proofs.Common.{◌≡◌, ◌<◌, ◌≤◌, ◌+◌, ◌-◌, ◌*◌, ◌∙◌, ◌++◌, ℕ, List, ap, sym, drop, take, length, get_or}
+use Rattle.std.proofs.Common.{arith, inl, inr, replicate}
+use Rattle.std.proofs.Math.Nat.{mul-le-mul_right, lt_of_not-le}
 use Rattle.std.proofs.lemmas.Bool.{cases_lt}
-use Rattle.std.proofs.lemmas.List.{get_or_append_left, get_or-append_right, get_or-take, get_or-drop, length-take, length-drop}
-use Rattle.vt_cells.specs.Cell.{default_blank}
-use Rattle.vt_screen.specs.Screen.{ScreenValue}
+use Rattle.std.proofs.lemmas.List.{get_or_append_left, get_or-append_right, get_or-take, get_or-drop, length-take}
+use Rattle.std.proofs.lemmas.List.{length-drop, drop-replicate, get_or_past}
+use Rattle.vt_cells.specs.Cell.{default_blank, CellValue, blank, glyph, right_half, IsCell, text_of}
+use Rattle.vt_screen.specs.Screen.{ScreenValue, visible_row}
 use Rattle.vt100_c.specs.Shown.{AreRowsForC, IsRowForC, cell_count, cell_for_c, cell_in, shown_cell}
 use Rattle.vt100_c.specs.declared.cells.VtCell.{VtCell}
 use borrow.Rule.Slice.PartMut.{put_mid}
+use Rattle.vt_cells.specs.Internals.{padded_text}
+use Rattle.vt_cells.proofs.Glyphs.{IsGlyphText-length}
 
 -- The elements before the part of a list that was replaced are unchanged.
 get_or-put_mid_below : {X : Type 0} (start n i : ℕ) (xs ys : List X) (d : X) → i < start → start ≤ length xs
@@ -79,3 +84,18 @@ all_rows screen rows cols xs new high wide fits part are row below col inside =
     ∙ (get_or_append_left new rest (cell_for_c default_blank) (row * width + col)
     (omega (arith, size, before_row row (length screen.page.rows) width col below inside))
     ∙ (sym (get_or-drop (row * width) new col (cell_for_c default_blank)) ∙ are row below col inside))
+
+pub short : (cell : CellValue) → IsCell cell → length (text_of cell) ≤ 29
+short (blank attrs) is = omega arith
+short (glyph text wide attrs) is = omega (arith, (IsGlyphText-length text wide is).1)
+short right_half is = omega arith
+
+pub pads : (text : List ℕ) → text ++ drop (length text) (replicate 30 0) ≡ padded_text text
+pads text = λ i. text ++ drop-replicate (length text) 30 0 i
+
+pub past : (row col : ℕ) (screen : ScreenValue) → row < length screen.page.rows
+    → ¬ ((row < length screen.page.rows) × (col < length (visible_row screen row).cells))
+    → shown_cell row col screen ≡ default_blank
+past row col screen shown outside =
+    get_or_past (visible_row screen row).cells col default_blank
+    (omega (arith, lt_of_not-le (λ below. outside (shown, below))))

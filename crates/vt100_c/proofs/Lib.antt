@@ -3,11 +3,8 @@ pub mod Joining
 pub mod AsBox
 pub mod Null
 pub mod Logging
-pub mod Padding
 pub mod RowPlaces
 pub mod Scrolling
-pub mod Showing
 pub mod Answering
-pub mod Reported
 pub mod Refused
 pub mod Walking

@@ -1,13 +1,15 @@
--- The record that a call adds to the log.
-use Rattle.std.proofs.Common.{◌≡◌, ℕ, Bool, true, false, List, [], ◌∷◌, ◌++◌, length, All, ◌∙◌, ◌-◌, ap, arith, sym, subst, rules}
-use Rattle.std.specs.Prelude.{if◌then◌else◌}
-use Rattle.std.proofs.lemmas.List.Elements.{All-append, All-cons, All-nil}
+-- The record that a call adds to the log, and the rows that the log keeps.
+use Rattle.std.proofs.Common.{◌≡◌, ℕ, Bool, true, false, List, [], ◌∷◌, ◌++◌, length, All, ◌∙◌, ◌-◌, ap, arith, sym}
+use Rattle.std.proofs.Common.{subst, rules, zero, suc, ◌<◌, get_or, take}
+use Rattle.std.specs.Prelude.{if◌then◌else◌, All, Option, Some, None}
+use Rattle.std.proofs.lemmas.List.Elements.{All-append, All-cons, All-nil, All-take}
 use Rattle.std.proofs.lemmas.List.{append_assoc, length-append}
 use Rattle.vt100_c.specs.Records.{Logged, cells_size, is_bare, record_of, rows_with, with_record}
 use Rattle.vt_rows.specs.Row.{IsRow, RowValue, trimmed_row}
 use Rattle.vt_screen.specs.Calls.{OnScroll}
 use Rattle.vt_screen.specs.Meanings.{call_of}
 use Rattle.vt_screen.specs.declared.callbacks.Call.{Call}
+use Rattle.std.specs.List.{slice_get}
 
 -- A call that reports no row adds no row to the log.
 pub no_row : (call : Call) (rows : List RowValue) → rows_with (call_of call) rows ≡ rows
@@ -62,3 +64,35 @@ sound_with rows row new true all one e =
     subst (All (λ (r : RowValue). IsRow (length r.cells) r)) (sym e)
     (All-append (λ (r : RowValue). IsRow (length r.cells) r) rows (row ∷ []) all (All-cons (λ (r : RowValue). IsRow (length r.cells) r) row [] one (All-nil (λ (r : RowValue). IsRow (length r.cells) r))))
 sound_with rows row new false all one e = subst (All (λ (r : RowValue). IsRow (length r.cells) r)) (sym e) all
+
+row_or : RowValue → Option RowValue → RowValue
+row_or row None = row
+row_or row (Some found) = found
+
+record IsAt (rows : List RowValue) (index : ℕ) (row : RowValue) : Type 0 where
+  inside : index < length rows
+  is : get_or rows index row ≡ row
+
+kept_at : (rows : List RowValue) (index : ℕ) (row : RowValue) → slice_get rows index ≡ Some row → IsAt rows index row
+unfolding row_or
+kept_at [] index row e = absurd (cc e)
+kept_at (first ∷ rows) zero row e = record { inside = omega arith; is = ap (row_or row) e }
+kept_at (first ∷ rows) (suc index) row e =
+    let at = kept_at rows index row e in
+    let inside : index < length rows = at.inside in
+    record { inside = omega arith; is = at.is }
+
+-- Each row that the log keeps is valid.
+pub kept_sound : (rows : List RowValue) (index : ℕ) (row : RowValue) →
+    All (λ (r : RowValue). IsRow (length r.cells) r) rows → slice_get rows index ≡ Some row → IsRow (length row.cells) row
+kept_sound rows index row all e =
+    let at = kept_at rows index row e in
+    subst (λ (r : RowValue). IsRow (length r.cells) r) at.is (all index row at.inside)
+
+-- Each of the first rows that the log keeps is valid.
+pub first_sound : (rows : List RowValue) (count index : ℕ) (row : RowValue) →
+    All (λ (r : RowValue). IsRow (length r.cells) r) rows → slice_get (take count rows) index ≡ Some row
+    → IsRow (length row.cells) row
+first_sound rows count index row all =
+    kept_sound (take count rows) index row
+    (All-take (λ (r : RowValue). IsRow (length r.cells) r) count rows all)

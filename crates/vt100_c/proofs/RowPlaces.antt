@@ -9,7 +9,7 @@ use Rattle.std.specs.Str.{chars}
 use Rattle.vt_rows.specs.CaptureRows.{AreRowsFrom, AreRowsOf, IsAfterEnd, IsAfterFull, IsRowOf, IsUncut}
 use Rattle.vt_rows.specs.Pieces.{ArePiecesOf, Piece, piece_end, texts_of}
 use Rattle.vt_rows.specs.Stretches.{ends_within}
-use Rattle.vt100_c.specs.Captures.{IsFirstRow, after_line_end, no_place}
+use Rattle.vt100_c.specs.Walking.{IsFirstRow, after_line_end, no_place}
 
 -- ---- pieces
 

@@ -9,8 +9,8 @@ use Rattle.vt_rows.specs.Stretches.{IsInStretch}
 use Rattle.vt_rows.proofs.CutRows.{rows_are_one}
 use Rattle.vt_rows.proofs.CaptureRows.{pieces_are_one}
 use Rattle.std.specs.Prelude.{chars}
-use Rattle.vt100_c.specs.Captures.{IsFirstPiece, IsFirstRow, IsPlace, no_place}
-use Rattle.vt100_c.specs.Walking.{ArePlacesOfPieces, ArePlacesOfRows, FindAllPlain, FindAllRows, FindsRow, place_from}
+use Rattle.vt100_c.specs.Walking.{IsFirstPiece, IsFirstRow, IsPlace, no_place, ArePlacesOfPieces, ArePlacesOfRows}
+use Rattle.vt100_c.specs.Walking.{FindAllPlain, FindAllRows, FindsRow, place_from}
 
 -- The slice, with its index counted from byte n of the text.
 abbrev back : ℕ → Piece → Piece

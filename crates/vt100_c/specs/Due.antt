@@ -5,7 +5,7 @@ use Rattle.std.specs.Prelude.{Bool, Option, Some, None, Result, Ok, Err, IfErr, 
 use Rattle.vt_grid.specs.Page.{Page}
 use Rattle.vt_screen.specs.Screen.{ScreenValue, visible_row}
 use Rattle.vt100_c.specs.Shown.{cell_count}
-use Rattle.vt100_c.specs.Sources.{screen_in}
+use Rattle.vt100_c.specs.Held.{screen_in}
 use Rattle.vt100_c.specs.Status.{ok, out_of_memory, bad_argument, wrong_kind, other_size, no_object}
 use Rattle.vt100_c.specs.declared.object.Object.{Object}
 use Rattle.vt100_c.specs.declared.object.Source.{Source}

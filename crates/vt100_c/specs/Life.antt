@@ -3,7 +3,7 @@ use Rattle.std.specs.Prelude.{◌≡◌, ℕ, Option, Some, None, unwrap_or}
 use Rattle.vt100.specs.Parser.{parser_value}
 use Rattle.vt100_c.specs.Calls.{Either, Fills, is_size}
 use Rattle.vt100_c.specs.Records.{default_limit, nothing_logged}
-use Rattle.vt100_c.specs.Sources.{screen_in}
+use Rattle.vt100_c.specs.Held.{screen_in}
 use Rattle.vt100_c.specs.Status.{ok, out_of_memory, bad_argument, wrong_kind, no_object, in_use}
 use Rattle.vt100_c.specs.declared.object.Object.{Object}
 use Rattle.vt100_c.specs.declared.object.Source.{Source}

@@ -1,12 +1,13 @@
--- Parsing bytes with a parser or a mirror.
+-- Parsing bytes with a parser or a mirror, and the number of bytes that a parser stores for an unfinished operating
+-- system command.
 use Rattle.std.specs.Prelude.{◌≡◌, ◌⊎◌, ◌==◌, ◌&&◌, ◌||◌, ◌+◌, ◌<◌, ◌≤◌, ◌-◌, ◌/◌, ◌%◌, ℕ, Bool, true, false, List}
-use Rattle.std.specs.Prelude.{length, take, drop, nat_lt, not, slice_index_or}
+use Rattle.std.specs.Prelude.{length, take, drop, nat_lt, not, slice_index_or, Option, Some, None}
 use Rattle.vt_mirror.specs.Calls.{MirrorProcesses}
 use Rattle.vt_mirror.specs.Mirror.{MirrorValue}
 use Rattle.std.specs.List.{FoldsTo}
 use Rattle.vt_scan.specs.Automaton.{State}
 use Rattle.vt_scan.specs.Run as scan
-use Rattle.vt_scan.specs.Scanner.{StandsFor}
+use Rattle.vt_scan.specs.Scanner.{StandsFor, unfinished_command}
 use Rattle.vt_screen.specs.Run as screen
 use Rattle.vt_screen.specs.Run.{Performs}
 use Rattle.vt100.specs.Parser.{CallsByLast, IsHarmless, IsRefused, ParserValue, Ran, Stopped, StoppedAt, stage}
@@ -154,3 +155,16 @@ ReadsUntilEvent bytes used (Screen old) status new = Refuses wrong_kind (Screen 
 ReadsUntilEvent bytes used (Mirror old) status new = Refuses wrong_kind (Mirror old) status new × (used ≡ 0)
 ReadsUntilEvent bytes used (Capture old) status new = Refuses wrong_kind (Capture old) status new × (used ≡ 0)
 ReadsUntilEvent bytes used old status new = ⊥
+
+-- The parser that a value contains, if any.
+abbrev pub parser_in : Source → Option (ParserValue Logged)
+parser_in (Parser parser) = Some parser
+parser_in (Screen screen) = None
+parser_in (Mirror mirror) = None
+parser_in (Capture written) = None
+
+-- In every state that the scanner can be in, `len` is the number of bytes collected for an unfinished operating system
+-- command, or 0 if there is none.
+abbrev pub ArePending : (len : ℕ) → ParserValue Logged → Type 0
+ArePending len parser =
+    (state : State) → StandsFor parser.scanner state → len ≡ length (unfinished_command state.kind state.collected)

@@ -6,7 +6,7 @@ use Rattle.vt_screen.specs.Contents.{row_texts}
 use Rattle.vt_screen.specs.RowsShown.{changed_rows}
 use Rattle.vt_screen.specs.Screen.{ScreenValue, visible_rows}
 use Rattle.vt100_c.specs.Due.{HoldBoth, HoldsScreen, OnBoth, same_size, source_at, text_at}
-use Rattle.vt100_c.specs.Sources.{screen_in}
+use Rattle.vt100_c.specs.Held.{screen_in}
 use Rattle.vt100_c.specs.Status.{ok, bad_argument, other_size}
 use Rattle.vt100_c.specs.declared.object.Object.{Object}
 

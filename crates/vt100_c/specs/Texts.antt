@@ -1,4 +1,4 @@
--- The text or output that each call generates.
+-- The text or output that each call generates, and how it is stored.
 use Rattle.std.specs.Prelude.{◌≡◌, ◌<◌, ◌≤◌, ◌/◌, ◌%◌, ◌==◌, ℕ, IsTrue, List, [], ◌++◌, Option, length, if◌then◌else◌}
 use Rattle.vt_cells.specs.Op.{bytes_of_all}
 use Rattle.vt_redraw.specs.Redraw.{cursor_state, difference, redraw}
@@ -20,11 +20,11 @@ use Rattle.vt_screen.specs.States.{state_text_in}
 use Rattle.vt_screen.specs.MadeOf.{IsMadeOf, shortened_controls, shortened_finals}
 use Rattle.vt_screen.specs.Screen.{ScreenValue, visible_rows}
 use Rattle.vt_screen.specs.ShortMoves.{IsMovingOrRedraw}
-use Rattle.vt_screen.specs.Shown.{IsSameIfEmpty, RedrawsFrom, attributes_text, display, display_change_in}
+use Rattle.vt_screen.specs.Shown.{IsSameIfEmpty, RedrawsFrom, attributes_text, display, display_change_in, form_of}
+use Rattle.vt_screen.specs.Shown.{shown_text, shown_text_in}
 use Rattle.vt_screen.specs.Portable.{IsPortableFrom}
-use Rattle.vt_screen.specs.Shown.{form_of, shown_text, shown_text_in}
-use Rattle.vt_screen.specs.Portable.{IsPortableFrom}
-use Rattle.vt100_c.specs.Due.{HoldBoth, HoldsScreen, any_screen, any_screens, sizes_status, source_at, start_status, text_at}
+use Rattle.vt100_c.specs.Due.{HoldBoth, HoldsScreen, any_screen, any_screens, sizes_status, source_at, start_status}
+use Rattle.vt100_c.specs.Due.{text_at}
 use Rattle.vt100_c.specs.Status.{ok, out_of_memory}
 use Rattle.vt100_c.specs.declared.output.Difference.{Difference}
 use Rattle.vt100_c.specs.declared.output.Difference.TheVariants as between
@@ -180,3 +180,17 @@ pub record MakesDifference (name : Difference) (old prev : Option Object) (statu
   pub source : source_at new ≡ source_at old
   pub nonempty : status ≡ out_of_memory → HoldBoth old prev (HasDifference name)
   pub made : status ≡ ok → HoldBoth old prev (λ screen before. IsDifference name screen before (text_at new))
+
+-- The generated text is stored in the handle, and its length is stored in the caller's variable. If the call fails, the
+-- handle and the variable are unchanged.
+pub record KeepsText (old : Option Object) (status : ℕ) (new : Option Object) (before after : ℕ) : Type 0 where
+  pub len : status ≡ ok → after ≡ length (text_at new)
+  pub refused : ¬ (status ≡ ok) → new ≡ old
+  pub refused_len : ¬ (status ≡ ok) → after ≡ before
+
+-- The generated text is stored in the first handle, and its length is stored in the caller's variable. If the call
+-- fails, the first handle and the variable are unchanged. The second handle is always unchanged.
+pub record KeepsBoth (old other : Option Object) (status : ℕ) (new other' : Option Object) (before after : ℕ) :
+    Type 0 where
+  pub same : other' ≡ other
+  pub first : KeepsText old status new before after

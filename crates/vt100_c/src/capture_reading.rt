@@ -4,8 +4,7 @@
 ghost use Rattle.std.specs.Prelude.{◌≡◌, ◌+◌, ◌<◌, ◌≤◌, ◌↔◌, List, IfSome, IsSome, drop, length};
 ghost use Rattle.vt_rows.specs.CaptureRows.{AreRowsOf};
 ghost use Rattle.vt_rows.specs.Pieces.{ArePiecesOf, Piece};
-ghost use Rattle.vt100_c.specs.Captures.{IsFirstPiece, IsFirstRow, IsPlace, after_line_end};
-ghost use Rattle.vt100_c.specs.Walking.{FindsPlain, FindsRow};
+ghost use Rattle.vt100_c.specs.Walking.{FindsPlain, FindsRow, IsFirstPiece, IsFirstRow, IsPlace, after_line_end};
 
 use crate::status::{BAD_ARGUMENT, OK};
 use std::str;

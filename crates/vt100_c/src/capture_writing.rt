@@ -9,9 +9,9 @@ ghost use Rattle.vt100_c.specs.Calls.{MakesOne};
 ghost use Rattle.vt100_c.specs.Capturing.{HaveText, HoldAtCapture, HoldsCapture, OnCapture, OnReported};
 ghost use Rattle.vt100_c.specs.Capturing.{due_at_capture, due_beside_capture, due_of_kinds, reported_status, state_in};
 ghost use Rattle.vt100_c.specs.Due.{AnswersOrStays, IsAnswer, IsSomeAnd, any_screen, status_in};
-ghost use Rattle.vt100_c.specs.KeptText.{KeepsBoth, KeepsText};
+ghost use Rattle.vt100_c.specs.Texts.{KeepsBoth, KeepsText};
 ghost use Rattle.vt100_c.specs.Log.{log_in};
-ghost use Rattle.vt100_c.specs.Sources.{screen_in};
+ghost use Rattle.vt100_c.specs.Held.{screen_in};
 ghost use Rattle.vt100_c.specs.Status.{ok, out_of_memory};
 
 use crate::event_log::Events;

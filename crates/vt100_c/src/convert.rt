@@ -59,7 +59,7 @@ pub(crate) fn cell_for_c(cell: &Cell) -> VtCell
 
 /// Writes the text of a cell into `room`, padded with zeros, and returns the
 /// length of the text in bytes.
-#[tactic(auto, using(crate::proofs::Padding::short, crate::proofs::Padding::pads))]
+#[tactic(auto, using(crate::proofs::AllCells::short, crate::proofs::AllCells::pads))]
 fn write_text(cell: &Cell, room: &mut [u8; 30]) -> u8
     ensures len { result ≡ length (text_of cell.now) }
     ensures text { room.new ≡ padded_text (text_of cell.now) }

@@ -2,10 +2,10 @@
 
 ghost use Rattle.std.specs.Prelude.{◌≡◌, Some, string_bytes};
 ghost use Rattle.vt100_c.specs.Due.{IsAnswer, OnBoth, any_screens, due_at_both, due_beside, due_on_both, sizes_status};
-ghost use Rattle.vt100_c.specs.KeptText.{KeepsBoth, KeepsText};
-ghost use Rattle.vt100_c.specs.Sources.{screen_in};
+ghost use Rattle.vt100_c.specs.Texts.{HasDifference, IsDifference, KeepsBoth, KeepsText, MakesDifference, due_for_both};
+ghost use Rattle.vt100_c.specs.Texts.{options_of};
+ghost use Rattle.vt100_c.specs.Held.{screen_in};
 ghost use Rattle.vt100_c.specs.Status.{ok, out_of_memory};
-ghost use Rattle.vt100_c.specs.Texts.{HasDifference, IsDifference, MakesDifference, due_for_both, options_of};
 ghost use Rattle.vt100_c.specs.declared.output.Difference.TheVariants as between;
 
 use crate::handle::Handle;

@@ -5,7 +5,7 @@ ghost use Rattle.vt_screen.specs.Screen.{visible_row};
 ghost use Rattle.vt100_c.specs.Due.{HoldsScreen, IsSomeAnd, all_cells_status, cell_status, due_at, due_on};
 ghost use Rattle.vt100_c.specs.Due.{row_cells_status, row_status};
 ghost use Rattle.vt100_c.specs.Shown.{AreRowsForC, IsRowForC, bit, cell_count, cell_for_c, shown_cell};
-ghost use Rattle.vt100_c.specs.Sources.{screen_in};
+ghost use Rattle.vt100_c.specs.Held.{screen_in};
 ghost use Rattle.vt100_c.specs.Status.{ok};
 
 use crate::cells::VtCell;
@@ -259,7 +259,7 @@ fn fill_row(screen: &Screen, row: u16, out: &mut [VtCell])
 }
 
 /// Returns the displayed cell at `row` and `col`, or a blank cell if the row has no such column.
-#[tactic(auto, using(crate::proofs::Showing::past))]
+#[tactic(auto, using(crate::proofs::AllCells::past))]
 fn shown_cell(screen: &Screen, row: u16, col: u16) -> VtCell
     requires { row < length screen.now.page.rows }
     ensures { result ≡ cell_for_c (shown_cell row col screen.now) }

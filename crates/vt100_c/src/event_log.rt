@@ -103,7 +103,7 @@ impl Events {
 
     /// Returns the reported row at `index`, counted from 0, or `None` if there
     /// is no such row.
-    #[tactic(auto, using(crate::proofs::Reported::first_sound))]
+    #[tactic(auto, using(crate::proofs::Logging::first_sound))]
     pub(crate) fn row(&self, index: usize) -> Option<RowContents<'_>>
         ensures { result ≡ slice_get self.now.rows index }
     {

@@ -2,8 +2,7 @@
 //! their clauses state what is proved.
 
 ghost use Rattle.std.specs.Prelude.{◌<◌, ℕ, List, length};
-ghost use Rattle.vt100_c.specs.Captures.{no_place};
-ghost use Rattle.vt100_c.specs.Walking.{ArePlacesOfPieces, ArePlacesOfRows, FindAllPlain, FindAllRows};
+ghost use Rattle.vt100_c.specs.Walking.{ArePlacesOfPieces, ArePlacesOfRows, FindAllPlain, FindAllRows, no_place};
 
 /// States that repeated calls find all chunks and rows of a capture, in order.
 ///

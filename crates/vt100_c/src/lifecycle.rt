@@ -5,7 +5,7 @@ ghost use Rattle.vt100_c.specs.Calls.{Fills, is_size};
 ghost use Rattle.vt100_c.specs.Due.{IsSomeAnd};
 ghost use Rattle.vt100_c.specs.Life.{IsNewParser, IsShownCopy, Makes, Saves, SavesShown, Swaps};
 ghost use Rattle.vt100_c.specs.Life.{refusal_of, refusal_on, saved_from, swap_status, with_other};
-ghost use Rattle.vt100_c.specs.Sources.{kind_held, screen_in};
+ghost use Rattle.vt100_c.specs.Held.{kind_held, screen_in};
 ghost use Rattle.vt100_c.specs.Status.{out_of_memory};
 ghost use Rattle.vt100_c.specs.declared.object.Source.TheVariants as source;
 

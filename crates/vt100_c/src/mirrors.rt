@@ -4,10 +4,9 @@ ghost use Rattle.std.specs.Prelude.{◌≡◌, IfSome, None, Some};
 ghost use Rattle.vt100_c.specs.Calls.{OnObject, OnSource};
 ghost use Rattle.vt100_c.specs.Due.{HoldsOne, IsSomeAnd, due_to, due_to_held};
 ghost use Rattle.vt100_c.specs.Life.{Makes};
-ghost use Rattle.vt100_c.specs.Mirrors.{numbers};
-ghost use Rattle.vt100_c.specs.Sources.{mirror_in};
+ghost use Rattle.vt100_c.specs.Viewing.{IsNewMirror, JoinsSource, LeavesSource, TellsCurrent, UpdatesObject, numbers};
+ghost use Rattle.vt100_c.specs.Held.{mirror_in};
 ghost use Rattle.vt100_c.specs.Status.{ok};
-ghost use Rattle.vt100_c.specs.Viewing.{IsNewMirror, JoinsSource, LeavesSource, TellsCurrent, UpdatesObject};
 ghost use Rattle.vt100_c.specs.Texts.{options_of};
 ghost use Rattle.vt_mirror.specs.Calls.{default_options, scrolling_options};
 

@@ -1,7 +1,7 @@
 //! The object that a handle holds.
 
 ghost use Rattle.std.specs.Prelude.{◌≡◌, IfSome, Some, None};
-ghost use Rattle.vt100_c.specs.Sources.{kind_of, screen_in};
+ghost use Rattle.vt100_c.specs.Held.{kind_of, screen_in};
 
 use crate::event_log::Events;
 use vt_mirror::Mirror;

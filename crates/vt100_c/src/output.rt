@@ -7,7 +7,7 @@ ghost use Rattle.vt_grid.specs.Page.{SameSize};
 ghost use Rattle.vt_screen.specs.Contents.{between_of};
 ghost use Rattle.vt100_c.specs.Due.{IsAnswer, IsSomeAnd, OnBoth, any_screens, due_on, due_on_both, start_status};
 ghost use Rattle.vt100_c.specs.Due.{same_size, sizes_status, status_in};
-ghost use Rattle.vt100_c.specs.Sources.{screen_in};
+ghost use Rattle.vt100_c.specs.Held.{screen_in};
 ghost use Rattle.vt100_c.specs.Status.{ok, out_of_memory};
 ghost use Rattle.vt100_c.specs.Texts.{HasDifference, HasText, IsDifference, due_for, due_for_both, options_of};
 ghost use Rattle.vt100_c.specs.Texts.{redraw_options_of, repeat_of, text_of};

@@ -3,7 +3,7 @@
 
 ghost use Rattle.std.specs.Prelude.{◌≡◌, IfSome, None, Some};
 ghost use Rattle.vt100_c.specs.Due.{HoldsOne, IsSomeAnd, due_to, due_to_held};
-ghost use Rattle.vt100_c.specs.Pending.{ArePending, parser_in};
+ghost use Rattle.vt100_c.specs.Reading.{ArePending, parser_in};
 ghost use Rattle.vt100_c.specs.Status.{ok};
 
 use crate::event_log::Events;

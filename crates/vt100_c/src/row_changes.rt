@@ -2,9 +2,9 @@
 
 ghost use Rattle.std.specs.Prelude.{◌≡◌, IfOk, length, string_bytes};
 ghost use Rattle.vt100_c.specs.Due.{AnswersOrStays, IsAnswer, OnBoth, due_at_both, due_beside, due_on_both};
-ghost use Rattle.vt100_c.specs.KeptText.{KeepsBoth};
+ghost use Rattle.vt100_c.specs.Texts.{KeepsBoth};
 ghost use Rattle.vt100_c.specs.Rows.{ChangesRows, HoldBeside, GivesRows, ranges_status};
-ghost use Rattle.vt100_c.specs.Sources.{screen_in};
+ghost use Rattle.vt100_c.specs.Held.{screen_in};
 ghost use Rattle.vt_screen.specs.RowsShown.{changed_rows};
 
 use crate::handle::Handle;

@@ -3,9 +3,9 @@
 ghost use Rattle.std.specs.Prelude.{◌≡◌, ◌<◌, ◌≤◌, IfErr, IfOk, length, string_bytes};
 ghost use Rattle.std.specs.Prelude.{drop, if◌then◌else◌, take, true};
 ghost use Rattle.vt100_c.specs.Due.{AnswersOrStays, IsAnswer, IsSomeAnd, due_at, due_on};
-ghost use Rattle.vt100_c.specs.KeptText.{KeepsText};
+ghost use Rattle.vt100_c.specs.Texts.{KeepsText};
 ghost use Rattle.vt100_c.specs.Rows.{MakesRows, GivesRows, places_status, range_status, plain_rows};
-ghost use Rattle.vt100_c.specs.Sources.{screen_in};
+ghost use Rattle.vt100_c.specs.Held.{screen_in};
 ghost use Rattle.vt100_c.specs.Status.{bad_argument, ok, out_of_memory};
 ghost use Rattle.vt_screen.specs.RowsShown.{formatted_rows};
 

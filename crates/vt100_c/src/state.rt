@@ -5,7 +5,7 @@ ghost use Rattle.vt_redraw.specs.Steady.{IsSteady};
 ghost use Rattle.vt_screen.specs.Shown.{display};
 ghost use Rattle.vt100_c.specs.Due.{HoldsScreen, IsSomeAnd, any_screen, due_at, due_on};
 ghost use Rattle.vt100_c.specs.Shown.{IsBitFor, state_for_c};
-ghost use Rattle.vt100_c.specs.Sources.{screen_in};
+ghost use Rattle.vt100_c.specs.Held.{screen_in};
 ghost use Rattle.vt100_c.specs.Status.{ok};
 
 use crate::cells::VtState;

@@ -2,9 +2,8 @@
 
 ghost use Rattle.std.specs.Prelude.{Some};
 ghost use Rattle.vt100_c.specs.Due.{IsAnswer, any_screen, due_at, due_on, start_status};
-ghost use Rattle.vt100_c.specs.KeptText.{KeepsText};
-ghost use Rattle.vt100_c.specs.Sources.{screen_in};
-ghost use Rattle.vt100_c.specs.Texts.{MakesText, due_for, redraw_options_of};
+ghost use Rattle.vt100_c.specs.Texts.{KeepsText, MakesText, due_for, redraw_options_of};
+ghost use Rattle.vt100_c.specs.Held.{screen_in};
 ghost use Rattle.vt100_c.specs.declared.output.Text.TheVariants as text;
 
 use crate::handle::Handle;

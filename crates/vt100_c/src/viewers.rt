@@ -1,9 +1,8 @@
 //! The viewers of a mirror, and the updates that they receive.
 
 ghost use Rattle.std.specs.Prelude.{◌≡◌, string_bytes};
-ghost use Rattle.vt100_c.specs.Mirrors.{Joins, LeavesIt, status_after, text_after, numbers, numbers_after};
+ghost use Rattle.vt100_c.specs.Viewing.{Joins, LeavesIt, TellsCurrent, numbers, numbers_after, status_after, text_after};
 ghost use Rattle.vt100_c.specs.Status.{ok};
-ghost use Rattle.vt100_c.specs.Viewing.{TellsCurrent};
 
 use crate::status::{BAD_ARGUMENT, OK, status_of};
 use vt_mirror::{Mirror, Update};

@@ -35,10 +35,9 @@ use Rattle.vt_screen.specs.declared.repeat.Repeat.TheVariants.{Never, Ascii, Any
 use Rattle.vt100.specs.Parser.{ParserValue, does_nothing}
 use Rattle.vt100.specs.Calls.{ParserProcesses}
 use Rattle.vt100.proofs.PlainParsers.{quiet_leaves, some_ran_size, some_stopped_size}
-use Rattle.vt_mirror.specs.Viewers.{AreViewers, Puts, ViewersValue, is_viewer, next_number, note_of}
+use Rattle.vt_mirror.specs.Mirror.{AreViewers, Puts, ViewersValue, is_viewer, next_number, note_of, IsMirror}
+use Rattle.vt_mirror.specs.Mirror.{MirrorValue, ShowsAlike}
 use Rattle.vt_mirror.specs.Calls.{JoinsMirror, Leaves, IsDiffFor, IsFullUpdate, IsPortableUpdate, IsUpdate}
-use Rattle.vt_mirror.specs.Mirror.{IsMirror, MirrorValue}
-use Rattle.vt_mirror.specs.Alike.{ShowsAlike}
 use Rattle.vt_mirror.specs.declared.update.Update.{Update}
 use Rattle.vt_mirror.specs.declared.update.Update.TheVariants.{Diff, Full}
 

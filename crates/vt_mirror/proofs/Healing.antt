@@ -24,7 +24,7 @@ use Rattle.vt100.proofs.Quiet.{ran_read}
 use Rattle.vt100.proofs.Running.{ran_joined}
 use Rattle.vt_mirror.specs.Calls.{Asks, GivesUpdate, IsFull, IsUpdate}
 use Rattle.vt_mirror.specs.Healing.{GoesAny, IsTakenFine, ReadsFine, SeesAny, ShowsSteady, TakesFine, WatchesAny}
-use Rattle.vt_mirror.specs.Viewers.{note_of}
+use Rattle.vt_mirror.specs.Mirror.{note_of}
 use Rattle.vt_mirror.specs.Watching.{Ask, IsFresh, IsLeft, IsNew, Join, Leave, MirrorCall, MirrorDoes, Process, SetSize}
 use Rattle.vt_mirror.specs.Watching.{TakesSize, Watching}
 use Rattle.vt_mirror.specs.declared.update.Update.{Update}

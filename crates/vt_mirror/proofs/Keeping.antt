@@ -16,7 +16,7 @@ use Rattle.vt_screen.specs.declared.diff_options.DiffOptions.{DiffOptions}
 use Rattle.vt_mirror.specs.Kept.{AreKept, AreOfOneVersion, AreShared, Copies, HasVersion, HaveNext, HoldsDiff}
 use Rattle.vt_mirror.specs.Kept.{IsCurrentNote, IsKept, IsKeptAs, IsRedrawKeptAs, IsRenewed, KeptValue}
 use Rattle.vt_mirror.specs.Kept.{no_texts, noted_at, screen_of, screens_of, without_versions}
-use Rattle.vt_mirror.specs.Viewers.{AreViewers, Puts, ViewersValue, is_viewer, note_of}
+use Rattle.vt_mirror.specs.Mirror.{AreViewers, Puts, ViewersValue, is_viewer, note_of}
 use Rattle.vt_mirror.specs.declared.copies.Note.{Note}
 use Rattle.vt_mirror.specs.declared.texts.KeptDiff.{KeptDiff}
 use Rattle.vt_mirror.specs.declared.texts.KeptRedraw.{KeptRedraw}

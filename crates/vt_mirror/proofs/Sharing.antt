@@ -43,8 +43,7 @@ use Rattle.vt_mirror.specs.Calls.{IsDiffFor}
 use Rattle.vt_mirror.specs.Kept.{HoldsDiff, IsKeptAs, IsRedrawKeptAs, KeptValue, no_texts, AreTexts, IsRedraw}
 use Rattle.vt_mirror.specs.Kept.{IsSharing, AreShared, Copies, HasVersion, IsCurrentNote, IsRenewed, current_in}
 use Rattle.vt_mirror.specs.Kept.{have_one_version, is_of_current, noted_at, screen_of, screens_of}
-use Rattle.vt_mirror.specs.Mirror.{IsMirror}
-use Rattle.vt_mirror.specs.Viewers.{note_of, AreViewers, PutsAmong, ViewersValue, is_among, is_viewer}
+use Rattle.vt_mirror.specs.Mirror.{IsMirror, note_of, AreViewers, PutsAmong, ViewersValue, is_among, is_viewer}
 use Rattle.vt_mirror.specs.declared.texts.KeptDiff.{KeptDiff}
 use Rattle.vt_mirror.specs.declared.texts.KeptRedraw.{KeptRedraw}
 use Rattle.vt_mirror.specs.declared.copies.Note.{Note}

@@ -26,10 +26,9 @@ use Rattle.vt100.proofs.Streams.{ran_called}
 use Rattle.vt_mirror.specs.Calls.{GivesUpdate, IsUpdate, MirrorProcesses, default_options}
 use Rattle.vt_mirror.specs.Internals.{InStretch, IsBegun, IsWritten, ReadsAtMost, ReadsBytes, ReadsFewer, ReadsStretch}
 use Rattle.vt_mirror.specs.Internals.{WritesUpdate, WritesUpdatePart, text_of_update}
-use Rattle.vt_mirror.specs.Mirror.{MirrorValue}
+use Rattle.vt_mirror.specs.Mirror.{MirrorValue, ViewersValue, is_viewer, note_of}
 use Rattle.vt_mirror.specs.Runs.{FailsAtFirst, FailsLater, IsUpdatedAfter, WritesAfter, WritesOnWay, WritesToEnd}
 use Rattle.vt_mirror.specs.Runs.{screens_on_way, screens_to_end, text_on_way}
-use Rattle.vt_mirror.specs.Viewers.{ViewersValue, is_viewer, note_of}
 use Rattle.vt_mirror.specs.declared.update.Update.{Update}
 use Rattle.vt_mirror.specs.declared.update.Update.TheVariants.{Diff, Full}
 use Rattle.vt_show.specs.Shown.{AppendsPart}

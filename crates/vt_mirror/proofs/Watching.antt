@@ -20,8 +20,7 @@ use Rattle.vt100.specs.Parser.{ParserValue}
 use Rattle.vt100.specs.Pieces.{HasRead, IsPlainParser}
 use Rattle.vt100.proofs.Quiet.{read_pieces}
 use Rattle.vt_mirror.specs.Calls.{Asks, GivesUpdate, IsDiffFor, IsFull, IsUpdate, JoinsMirror, Resizes}
-use Rattle.vt_mirror.specs.Mirror.{MirrorValue}
-use Rattle.vt_mirror.specs.Viewers.{Puts, ViewersValue, next_number, note_of}
+use Rattle.vt_mirror.specs.Mirror.{MirrorValue, Puts, ViewersValue, next_number, note_of}
 use Rattle.vt_mirror.specs.Watching.{Ask, CountUp, Goes, IsFresh, IsLeft, IsNew, IsTakenBy, MirrorDoes, Watches}
 use Rattle.vt_mirror.specs.Watching.{Join, Leave, MirrorCall, Process, ReadsText, Sees, SetSize, ShowsSeen}
 use Rattle.vt_mirror.specs.Watching.{TakesUpdate, TakesSize, Watching, numbers_given}

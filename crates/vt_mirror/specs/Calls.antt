@@ -21,8 +21,7 @@ use Rattle.vt_screen.specs.declared.diff_options.DiffOptions.{DiffOptions}
 use Rattle.vt_screen.specs.declared.repeat.Repeat.TheVariants.{Never}
 use Rattle.vt100.specs.Calls.{ParserProcesses}
 use Rattle.vt100.specs.Parser.{does_nothing}
-use Rattle.vt_mirror.specs.Mirror.{MirrorValue}
-use Rattle.vt_mirror.specs.Viewers.{Puts, PutsAmong, ViewersValue, is_viewer, next_number, note_of}
+use Rattle.vt_mirror.specs.Mirror.{MirrorValue, Puts, PutsAmong, ViewersValue, is_viewer, next_number, note_of}
 use Rattle.vt_mirror.specs.declared.update.Update.{Update}
 use Rattle.vt_mirror.specs.declared.update.Update.TheVariants.{Diff, Full}
 

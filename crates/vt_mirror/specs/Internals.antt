@@ -9,9 +9,8 @@ use Rattle.vt_scan.specs.Scanner.{StandsFor}
 use Rattle.vt_screen.specs.Chain.{last_screen}
 use Rattle.vt100.specs.Parser.{Ran, does_nothing}
 use Rattle.vt_mirror.specs.Calls.{GivesUpdate, default_options}
-use Rattle.vt_mirror.specs.Mirror.{MirrorValue}
+use Rattle.vt_mirror.specs.Mirror.{MirrorValue, is_viewer, note_of}
 use Rattle.vt_mirror.specs.Runs.{IsUpdatedAfter, screens_on_way, text_on_way}
-use Rattle.vt_mirror.specs.Viewers.{is_viewer, note_of}
 use Rattle.vt_show.specs.Shown.{AppendsPart}
 use Rattle.vt_mirror.specs.declared.update.Update.{Update}
 use Rattle.vt_mirror.specs.declared.update.Update.TheVariants.{Diff, Full}

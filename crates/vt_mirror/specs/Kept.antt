@@ -13,13 +13,12 @@ use Rattle.vt_screen.specs.MadeOf.{IsMadeOf, drawing_controls, drawing_finals}
 use Rattle.vt_screen.specs.Portable.{IsPortableAnywhere}
 use Rattle.vt_screen.specs.Shown.{IsReader, KeepsRest, Redraws, display, form_of, shown_text_in}
 use Rattle.vt100.specs.Parser.{ParserValue}
-use Rattle.vt_mirror.specs.Viewers.{AreViewers, ViewersValue}
+use Rattle.vt_mirror.specs.Mirror.{AreViewers, ViewersValue, IsMirror}
 use Rattle.vt_mirror.specs.Calls.{greatest, IsDiffFor}
 use Rattle.vt_mirror.specs.declared.copies.Note.{Note}
 use Rattle.vt_mirror.specs.declared.texts.KeptDiff.{KeptDiff}
 use Rattle.vt_mirror.specs.declared.texts.KeptRedraw.{KeptRedraw}
 use Rattle.vt_mirror.specs.declared.texts.Texts.{Texts}
-use Rattle.vt_mirror.specs.Mirror.{IsMirror}
 
 -- ==== The copies of screens that a mirror keeps for its viewers, numbered by version and shared between viewers, and
 -- the texts of updates that it stores.

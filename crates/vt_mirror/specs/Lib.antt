@@ -1,8 +1,6 @@
 -- Mirrors and their viewers
-pub mod Viewers
 pub mod Mirror
 pub mod Calls
-pub mod Alike
 pub mod Watching
 pub mod Healing
 -- The program

@@ -2,7 +2,7 @@
 
 ghost use Rattle.std.specs.Prelude.{◌≡◌, ◌↔◌, IfOk, IfSome, IsTrue, true};
 ghost use Rattle.vt_cells.specs.Refusals.{OnlyOutOfMemory};
-ghost use Rattle.vt_mirror.specs.Alike.{ShowsAlike};
+ghost use Rattle.vt_mirror.specs.Mirror.{ShowsAlike};
 ghost use Rattle.vt_mirror.specs.Kept.{AreOfOneVersion, have_one_version};
 ghost use Rattle.vt_redraw.specs.Steady.{IsSteady};
 ghost use Rattle.vt_screen.specs.Shown.{display};
@@ -27,7 +27,6 @@ pub(crate) struct DisplayCopy {
 
 impl Model for DisplayCopy {
     ghost use Rattle.std.specs.Prelude.{◌↔◌, IsTrue};
-    ghost use Rattle.vt_mirror.specs.Alike.{ShowsAlike};
     ghost use Rattle.vt_redraw.specs.Steady.{IsSteady};
     ghost use Rattle.vt_screen.specs.Screen.{ScreenValue};
     ghost use Rattle.vt_screen.specs.Shown.{display};

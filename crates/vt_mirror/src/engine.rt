@@ -7,7 +7,7 @@ ghost use Rattle.vt_mirror.specs.Program.{AskFor, AskForNothing};
 ghost use Rattle.vt_mirror.specs.Internals.{IsBegun, ReadsAtMost, ReadsFewer, ReadsStretch};
 ghost use Rattle.vt_mirror.specs.Internals.{WritesUpdate, WritesUpdatePart};
 ghost use Rattle.vt_mirror.specs.Runs.{UpdatesOrFails};
-ghost use Rattle.vt_mirror.specs.Viewers.{is_viewer};
+ghost use Rattle.vt_mirror.specs.Mirror.{is_viewer};
 ghost use Rattle.vt_screen.specs.Screen.{fresh_screen};
 ghost use Rattle.vt_show.specs.declared.faults.Fault.{Fault};
 

@@ -5,7 +5,7 @@ ghost use Rattle.vt_cells.specs.Refusals.{OnlyOutOfMemory};
 ghost use Rattle.vt_mirror.specs.Calls.{JoinsMirror, Leaves, greatest};
 ghost use Rattle.vt_mirror.specs.Kept.{HasVersion, HaveNext, HoldsDiff, IsCurrentNote, IsKeptAs, IsRedrawKeptAs};
 ghost use Rattle.vt_mirror.specs.Kept.{IsRenewed, no_texts};
-ghost use Rattle.vt_mirror.specs.Viewers.{Puts, PutsAmong, is_among, is_viewer, next_number, note_of};
+ghost use Rattle.vt_mirror.specs.Mirror.{Puts, PutsAmong, is_among, is_viewer, next_number, note_of};
 ghost use Rattle.vt_mirror.specs.declared.texts.KeptDiff.{KeptDiff};
 ghost use Rattle.vt_mirror.specs.declared.texts.KeptRedraw.{KeptRedraw};
 ghost use Rattle.vt_screen.specs.Screen.{ScreenValue};

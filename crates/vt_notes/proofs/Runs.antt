@@ -25,8 +25,7 @@ use Rattle.vt_screen.specs.CallsOfRun.{screen_in}
 use Rattle.vt100.specs.Streams.{IsRecorder}
 use Rattle.vt100.specs.Parser.{ParserValue, Ran, pieces_joined, parser_value, stage}
 use Rattle.vt100.proofs.Running.{ran_joined}
-use Rattle.vt_notes.specs.Recording.{Recorded, Records, with_rows}
-use Rattle.vt_notes.specs.Noting.{Noted, NotesIt, nothing_noted, with_call, with_gap}
+use Rattle.vt_notes.specs.Noting.{Recorded, Records, with_rows, Noted, NotesIt, nothing_noted, with_call, with_gap}
 
 -- ==== Callbacks that append the reported rows to a capture.
 

@@ -1,6 +1,6 @@
--- Callbacks that record each call as a note.
-use Rattle.std.specs.Prelude.{◌≡◌, map, string_bytes, ◌⊎◌, Bool, true, false, List, [], ◌∷◌, ◌++◌}
-use Rattle.vt_rows.specs.Basic.{basic_text, nothing_written}
+-- Callbacks that record each call as a note, and callbacks that append the reported rows to a capture.
+use Rattle.std.specs.Prelude.{◌≡◌, map, string_bytes, ◌⊎◌, Bool, true, false, List, [], ◌∷◌, ◌++◌, ℕ}
+use Rattle.vt_rows.specs.Basic.{basic_text, nothing_written, Written}
 use Rattle.vt_rows.specs.Row.{RowValue}
 use Rattle.vt_screen.specs.Calls as value
 use Rattle.vt_screen.specs.Calls.{CallValue}
@@ -8,6 +8,8 @@ use Rattle.vt_screen.specs.Screen.{ScreenValue}
 use Rattle.vt_notes.specs.declared.note.NotedRow.{NotedRow}
 use Rattle.vt_notes.specs.declared.note.Note.{Note}
 use Rattle.vt_notes.specs.declared.note.Note.TheVariants as note
+use Rattle.vt_screen.specs.Capture.{basic_texts, written_after_all}
+use Rattle.vt_screen.specs.Streamed.{row_of_call}
 
 -- ==== The calls that notes record, and the values of stored rows.
 
@@ -59,3 +61,23 @@ with_gap noted = record noted { is_complete = false }
 -- The call is recorded with all its arguments, or the notes are marked as incomplete. The screen is unchanged.
 abbrev pub NotesIt : CallValue → Noted → ScreenValue → Noted → ScreenValue → Type 0
 NotesIt call old before new after = (after ≡ before) × ((new ≡ with_call call old) ⊎ (new ≡ with_gap old))
+
+-- The text of a capture so far, the capture's state, and whether no part of the text is missing.
+pub record Recorded : Type 0 where
+  pub text : List ℕ
+  pub state : Written
+  pub is_whole : Bool
+
+-- The initial state of a recording, which is empty and complete.
+abbrev pub nothing_recorded : Recorded
+nothing_recorded = record { text = []; state = nothing_written; is_whole = true }
+
+-- The capture after the given rows are appended.
+abbrev pub with_rows : List RowValue → Recorded → Recorded
+with_rows rows old =
+    record old { text = old.text ++ basic_texts old.state rows; state = written_after_all old.state rows }
+
+-- The row of the main page that the call reports, if any, is appended to the capture, or the capture is marked as
+-- incomplete. The screen is unchanged.
+abbrev pub Records : CallValue → Recorded → ScreenValue → Recorded → ScreenValue → Type 0
+Records call old before new after = (after ≡ before) × ((new ≡ with_rows (row_of_call call) old) ⊎ (new.is_whole ≡ false))

@@ -2,7 +2,7 @@
 
 ghost use Rattle.std.specs.Prelude.{◌≡◌, ◌++◌, false, true, OnErr, OnOk};
 ghost use Rattle.vt_cells.specs.Refusals.{OnlyOutOfMemory};
-ghost use Rattle.vt_notes.specs.Recording.{nothing_recorded};
+ghost use Rattle.vt_notes.specs.Noting.{Recorded, Records, nothing_recorded};
 ghost use Rattle.vt_screen.specs.Capture.{all_rows, basic_texts, written_after_all};
 
 use std::alloc::Global;
@@ -22,7 +22,6 @@ pub struct Recorder {
 
 impl Model for Recorder {
     ghost use Rattle.std.specs.Prelude.{string_bytes};
-    ghost use Rattle.vt_notes.specs.Recording.{Recorded};
 
     ghost Value = { Recorded };
 
@@ -92,8 +91,6 @@ impl Recorder {
 /// Callbacks that append each row that scrolls off the main page to the capture, ignore rows of the
 /// alternate page, and do not change the screen.
 impl Callbacks for Recorder {
-    ghost use Rattle.vt_notes.specs.Recording.{Records};
-
     ghost does = { Records };
 
     #[tactic(auto, using(crate::proofs::Runs::other_call))]

@@ -3,7 +3,7 @@ use Rattle.vt_screen.specs.Screen.{IsScreen, ScreenValue}
 use Rattle.std.specs.Prelude.{Ok, Option}
 use Rattle.vt100.specs.Parser.{Ran, does_nothing}
 use Rattle.vt_mirror.specs.Calls.{Asks, default_options}
-use Rattle.vt_mirror.specs.Viewers.{ViewersValue, next_number}
+use Rattle.vt_mirror.specs.Mirror.{ViewersValue, next_number}
 use Rattle.vt_mirror.specs.declared.update.Update.{Update}
 use Rattle.example_contracts.proofs.Viewing.{late_shows}
 use Rattle.example_contracts.proofs.mirroring.show_late.Goals as goal

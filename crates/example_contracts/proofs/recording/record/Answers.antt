@@ -1,7 +1,7 @@
 use Rattle.std.proofs.Common.{◌≡◌, false, List, [], ◌∷◌, refl, sym, ap, subst, ◌∙◌}
 use Rattle.std.proofs.lemmas.List.{append-nil}
 use Rattle.std.specs.List.{FoldsTo}
-use Rattle.vt_notes.specs.Recording.{Recorded, Records}
+use Rattle.vt_notes.specs.Noting.{Recorded, Records}
 use Rattle.vt_scan.specs.Automaton.{start}
 use Rattle.vt_screen.specs.Screen.{IsScreen, ScreenValue, fresh_screen}
 use Rattle.vt_screen.specs.Streamed.{HasNoRis}

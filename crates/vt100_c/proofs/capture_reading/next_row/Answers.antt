@@ -1,6 +1,6 @@
 -- The first row is within the text, and the next one begins after it.
 use Rattle.std.proofs.Common.{◌≤◌, List, ℕ, length, ap, ◌∙◌, arith}
-use Rattle.vt100_c.specs.Captures.{after_line_end}
+use Rattle.vt100_c.specs.Walking.{after_line_end}
 use Rattle.vt100_c.proofs.RowPlaces.{next_inside, next_rows}
 use Rattle.vt100_c.proofs.capture_reading.next_row.Goals as goal
 

@@ -1,6 +1,6 @@
 use Rattle.std.proofs.Common.{ap}
 use Rattle.vt100.proofs.Streams.{recorded_text}
-use Rattle.vt_notes.specs.Recording.{Recorded, Records}
+use Rattle.vt_notes.specs.Noting.{Recorded, Records}
 use Rattle.vt_notes.proofs.Runs.{recorder}
 use Rattle.vt_notes.proofs.laws.recorded.Goals as goal
 

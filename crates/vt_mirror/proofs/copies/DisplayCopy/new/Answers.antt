@@ -1,5 +1,5 @@
 use Rattle.std.proofs.Common.{◌↔◌, IsTrue, subst, sym}
-use Rattle.vt_mirror.specs.Alike.{ShowsAlike}
+use Rattle.vt_mirror.specs.Mirror.{ShowsAlike}
 use Rattle.vt_redraw.specs.Steady.{IsSteady}
 use Rattle.vt_screen.specs.Screen.{ScreenValue}
 use Rattle.vt_screen.specs.Shown.{display}

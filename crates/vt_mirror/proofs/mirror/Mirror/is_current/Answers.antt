@@ -1,7 +1,6 @@
 use Rattle.std.proofs.Common.{Some, subst, ap, ◌≡◌, ◌∙◌}
 use Rattle.vt_screen.specs.Screen.{ScreenValue}
-use Rattle.vt_mirror.specs.Mirror.{MirrorValue}
-use Rattle.vt_mirror.specs.Viewers.{note_of}
+use Rattle.vt_mirror.specs.Mirror.{MirrorValue, note_of}
 use Rattle.vt_mirror.proofs.Sharing.{CopiesScreen}
 use Rattle.vt_mirror.proofs.mirror.Mirror.is_current.Goals as goal
 

@@ -5,7 +5,7 @@ use Rattle.vt_redraw.specs.Steady.{IsSteady}
 use Rattle.vt_screen.specs.Screen.{IsColored, IsScreen, ScreenValue}
 use Rattle.vt_screen.specs.Shown.{display}
 use Rattle.vt_mirror.specs.Calls.{IsDiffFor}
-use Rattle.vt_mirror.specs.Viewers.{note_of}
+use Rattle.vt_mirror.specs.Mirror.{note_of}
 use Rattle.vt_mirror.proofs.Sharing.{CopiesScreen, none_for, sharing_kept}
 use Rattle.vt_mirror.proofs.Bookkeeping.{diff_from, diff_update, full_update, of_noted}
 use Rattle.vt_mirror.proofs.mirror.Mirror.next_update.Goals as goal

@@ -1,7 +1,7 @@
 use Rattle.std.proofs.Common.{List, None, ℕ, ap, subst, sym, ◌∙◌}
 use Rattle.vt_screen.specs.Screen.{ScreenValue}
 use Rattle.vt_mirror.specs.Kept.{AreShared, KeptValue, copies_of, screens_of}
-use Rattle.vt_mirror.specs.Viewers.{AreViewers, ViewersValue}
+use Rattle.vt_mirror.specs.Mirror.{AreViewers, ViewersValue}
 use Rattle.vt_mirror.specs.declared.texts.Texts.{Texts}
 use Rattle.vt_mirror.proofs.Sharing.{kept_changed}
 use Rattle.vt_mirror.proofs.Keeping.{next_numbered, next_screens, shared_next}

@@ -1,7 +1,7 @@
 use Rattle.std.proofs.Common.{None, Some, ap, refl, sym, ◌∙◌}
 use Rattle.std.specs.declared.option.Option.{Option}
 use Rattle.vt_mirror.specs.Kept.{KeptValue, copies_of, is_of_current, noted_at, screens_of}
-use Rattle.vt_mirror.specs.Viewers.{ViewersValue}
+use Rattle.vt_mirror.specs.Mirror.{ViewersValue}
 use Rattle.vt_mirror.specs.declared.copies.Note.{Note}
 use Rattle.vt_mirror.proofs.Sharing.{no_current, seen_current}
 use Rattle.vt_mirror.proofs.Keeping.{found_current}

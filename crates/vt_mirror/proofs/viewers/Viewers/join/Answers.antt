@@ -1,6 +1,6 @@
 use Rattle.std.proofs.Common.{Some, ap, refl, sym}
 use Rattle.vt_mirror.specs.Kept.{KeptValue, current_in, screens_of}
-use Rattle.vt_mirror.specs.Viewers.{ViewersValue}
+use Rattle.vt_mirror.specs.Mirror.{ViewersValue}
 use Rattle.vt_mirror.proofs.Bookkeeping.{if_taken, joined_viewers}
 use Rattle.vt_mirror.proofs.Sharing.{current_joined}
 use Rattle.vt_mirror.proofs.viewers.Viewers.join.Goals as goal

@@ -1,6 +1,6 @@
 use Rattle.std.proofs.Common.{◌≡◌, Some, refl, subst}
 use Rattle.vt_mirror.specs.Kept.{HoldsDiff, IsKeptAs, KeptValue, copies_of, screens_of}
-use Rattle.vt_mirror.specs.Viewers.{note_of}
+use Rattle.vt_mirror.specs.Mirror.{note_of}
 use Rattle.vt_mirror.specs.declared.texts.KeptDiff.{KeptDiff}
 use Rattle.vt_mirror.proofs.Keeping.{found_diff}
 use Rattle.vt_mirror.proofs.viewers.Viewers.kept_diff.Goals as goal

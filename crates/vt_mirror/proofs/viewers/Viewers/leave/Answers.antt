@@ -1,7 +1,7 @@
 use Rattle.std.proofs.Common.{ap, refl, subst}
 use Rattle.vt_mirror.specs.Calls.{Leaves}
 use Rattle.vt_mirror.specs.Kept.{KeptValue, copies_of, screens_of}
-use Rattle.vt_mirror.specs.Viewers.{ViewersValue}
+use Rattle.vt_mirror.specs.Mirror.{ViewersValue}
 use Rattle.vt_mirror.proofs.Sharing.{current_left}
 use Rattle.vt_mirror.proofs.Keeping.{fewer_kept, kept_left, note_left, note_left_viewers}
 use Rattle.vt_mirror.proofs.viewers.Viewers.leave.Goals as goal

@@ -1,7 +1,7 @@
 use Rattle.std.proofs.Common.{ℕ, List, Some, true, ◌≡◌, ap, refl, subst, sym, ◌∙◌}
 use Rattle.vt_screen.specs.Screen.{ScreenValue}
 use Rattle.vt_mirror.specs.Kept.{AreKept, KeptValue, copies_of, current_in, screens_of}
-use Rattle.vt_mirror.specs.Viewers.{Puts, ViewersValue, is_viewer}
+use Rattle.vt_mirror.specs.Mirror.{Puts, ViewersValue, is_viewer}
 use Rattle.vt_mirror.specs.declared.copies.Note.{Note}
 use Rattle.vt_mirror.proofs.Bookkeeping.{if_refused, if_taken, on_err}
 use Rattle.vt_mirror.proofs.Sharing.{current_put, current_renewed}

@@ -1,6 +1,6 @@
 use Rattle.std.proofs.Common.{Some, None, refl, sym, ap, ◌∙◌}
 use Rattle.vt_mirror.specs.Kept.{KeptValue, screens_of}
-use Rattle.vt_mirror.specs.Viewers.{ViewersValue, note_of}
+use Rattle.vt_mirror.specs.Mirror.{ViewersValue, note_of}
 use Rattle.vt_mirror.proofs.Keeping.{found_note}
 use Rattle.vt_mirror.proofs.viewers.Viewers.noted.Goals as goal
 
