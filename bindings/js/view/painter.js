@@ -1,6 +1,7 @@
 import { drawBoxCharacter } from "./box_drawing.js";
-import { BOLD, CELL_SIZE, CONTINUATION, DIM, ITALIC, UNDERLINE, WIDE, flagsAt } from "./cells.js";
-import { NO_COLUMNS, runsOf } from "./runs.js";
+import {
+  BOLD, CELL_SIZE, CONTINUATION, DIM, ITALIC, NO_COLUMNS, UNDERLINE, WIDE, flagsAt, runsOf,
+} from "./cells.js";
 import { Theme } from "./theme.js";
 
 const SAMPLE = "M".repeat(64);

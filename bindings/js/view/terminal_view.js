@@ -4,8 +4,7 @@ import { hasEqualCells } from "./cells.js";
 import { Painter } from "./painter.js";
 import { PointerSelection } from "./pointer_selection.js";
 import { RowStore } from "./row_store.js";
-import { Selection, wordAt } from "./selection.js";
-import { lineOf, textBetween } from "./selection_text.js";
+import { Selection, lineOf, textBetween, wordAt } from "./selection.js";
 import { adoptStyle } from "./styles.js";
 import { Theme } from "./theme.js";
 

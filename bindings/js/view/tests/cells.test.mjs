@@ -1,7 +1,6 @@
 import assert from "node:assert/strict";
 import { test } from "node:test";
-import { BOLD, CONTINUATION, INVERSE, WIDE, hasEqualCells, rowText, textAt } from "../cells.js";
-import { runsOf } from "../runs.js";
+import { BOLD, CONTINUATION, INVERSE, WIDE, hasEqualCells, rowText, runsOf, textAt } from "../cells.js";
 import { Theme } from "../theme.js";
 import { row } from "./lib/records.mjs";
 

@@ -2,8 +2,30 @@ import assert from "node:assert/strict";
 import { test } from "node:test";
 import { BOLD, CONTINUATION, UNDERLINE, WIDE } from "../cells.js";
 import { Painter } from "../painter.js";
-import { recordingContext } from "./lib/recording_context.mjs";
 import { row } from "./lib/records.mjs";
+
+const RECORDED = ["fillRect", "fillText", "rect", "clip", "save", "restore"];
+
+/**
+ * Returns a stand-in for the 2D context of a canvas, which records what was drawn: `calls` has the recorded calls. Its
+ * characters are `advance` wide, and reach below the baseline by `tail`, which may be more than the font's descent.
+ */
+function recordingContext({ advance, ascent, descent, tail, hasSpacing = true }) {
+  const calls = [];
+  const context = {
+    calls, canvas: { width: 0, height: 0 }, fillStyle: "", font: "", globalAlpha: 1,
+    measureText: (text) => ({
+      width: advance * text.length, fontBoundingBoxAscent: ascent, fontBoundingBoxDescent: descent,
+      actualBoundingBoxAscent: ascent - 1, actualBoundingBoxDescent: tail ?? descent - 1,
+    }),
+    beginPath() {},
+  };
+  if (hasSpacing) context.letterSpacing = "0px";
+  for (const name of RECORDED) {
+    context[name] = (...parts) => calls.push({ name, parts, style: context.fillStyle, font: context.font });
+  }
+  return context;
+}
 
 // Cells of 10 by 20 pixels, since 9.6, 14.5 and 4.7 are rounded; the baseline is 15 pixels below the top.
 function painted(records, { selected = null, cursor = null, hasSpacing = true, tail } = {}) {
