@@ -15,8 +15,8 @@ NARROW = [chr(c) for c in range(0x410, 0x450)]
 WIDE = [chr(c) for c in range(0x30A1, 0x30FB)]
 
 DEFINITION = f"{os.path.dirname(__file__)}/../../crates/vt_redraw/specs/Certain.antt"
-# The parts of the definition, and the number of columns of the characters that they list.
-PARTS = (("is_certain_narrow", 1), ("is_certain_letter", 1), ("is_certain_symbol", 1), ("is_certain_wide", 2))
+# The parts of the definition that hold for characters of one and of two columns.
+PARTS = (("is_certain_narrow", 1), ("is_certain_wide", 2))
 # As many characters are read at once. The errors of two would have to cancel each other out to go unseen.
 BATCH = 8
 
@@ -171,16 +171,18 @@ class Twins:
         return self.pattern.sub(lambda found: self.twins[found[0]], text.decode()).encode()
 
 
+def ranges_of(part, text):
+    """Returns the ranges of codes for which a part of the definition holds: those in it, and those of parts that it names."""
+    body = text.split(f"\n{part} c =")[1].split("\n\n")[0]
+    found = [(int(low, 16), int(high, 16)) for low, high in re.findall(r"\bis_between (0x\w+) (0x\w+) c\b", body)]
+    return found + [it for name in re.findall(r"\b(is_\w+) c\b", body) for it in ranges_of(name, text)]
+
+
 def certain_characters():
     """Returns the characters that the definition lists, by their number of columns."""
     with open(DEFINITION, encoding="utf-8") as file:
         text = file.read()
-    found = {1: [], 2: []}
-    for name, columns in PARTS:
-        body = text[text.index(f"\n{name} c =") :].split("\n\n")[0]
-        ranges = [(int(low, 16), int(high, 16)) for low, high in re.findall(r"is_between (0x\w+) (0x\w+) c", body)]
-        found[columns] += [chr(c) for low, high in ranges for c in range(low, high + 1)]
-    return found
+    return {columns: [chr(c) for low, high in ranges_of(part, text) for c in range(low, high + 1)] for part, columns in PARTS}
 
 
 def odd_characters(make):
