@@ -12,8 +12,7 @@
 //!   of this module, or in a vector or a slice, whose length is also passed. A [`crate::Cell`] has
 //!   the layout of a [`Cell`].
 
-use crate::diff_options::DiffOptions;
-use crate::redraw_options::RedrawOptions;
+use crate::options::{DiffOptions, RedrawOptions};
 
 /// Defines structs with the layout of the header.
 macro_rules! structs {

@@ -1,7 +1,7 @@
 //! A terminal whose screen is mirrored by remote viewers. Not in the crate `vt100`.
 
-use crate::diff_options::DiffOptions;
 use crate::library::{Handle, Updates};
+use crate::options::DiffOptions;
 use std::num::NonZeroU16;
 use std::sync::{Mutex, PoisonError};
 

@@ -1,9 +1,8 @@
 //! The text of a screen, and its redraws and diffs as strings.
 
 use crate::capture::BasicFormattedCaptureRange;
-use crate::diff_options::DiffOptions;
 use crate::library::{Difference, DifferenceWith, Handle, RowTexts, Text, TextWith};
-use crate::redraw_options::RedrawOptions;
+use crate::options::{DiffOptions, RedrawOptions};
 use crate::Screen;
 use std::fmt;
 
