@@ -2,8 +2,8 @@
 
 use crate::color::{INK, PAPER};
 use crate::spot::{Mark, Spot, cursor_col, spots_of};
-use crate::xml::Escaped;
 use std::alloc::{AllocError, Global};
+use std::fmt;
 use vt100::Screen;
 
 /// The width of a column, in SVG units.
@@ -187,4 +187,24 @@ fn write_mark(
         out,
         r#"<rect x="{x}" y="{y}" width="{width}" height="{height}"/>"#
     )
+}
+
+/// Text escaped for use between two tags. The two characters U+FFFE and U+FFFF, which XML does not
+/// allow, are written as U+FFFD.
+#[derive(Clone, Copy)]
+struct Escaped<'a>(&'a str);
+
+impl fmt::Display for Escaped<'_> {
+    fn fmt<W: fmt::Write>(&self, f: &mut fmt::Formatter<W>) -> fmt::Result {
+        for c in self.0.chars() {
+            match c {
+                '&' => write!(f, "&amp;")?,
+                '<' => write!(f, "&lt;")?,
+                '>' => write!(f, "&gt;")?,
+                '\u{fffe}' | '\u{ffff}' => write!(f, "\u{fffd}")?,
+                _ => write!(f, "{c}")?,
+            }
+        }
+        Ok(())
+    }
 }

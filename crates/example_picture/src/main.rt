@@ -5,7 +5,6 @@
 mod color;
 mod drawing;
 mod spot;
-mod xml;
 
 use anyhow::Result;
 use std::env;
