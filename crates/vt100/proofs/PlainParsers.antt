@@ -8,9 +8,8 @@ use Rattle.std.proofs.lemmas.Bool.Decides.{nat_tests}
 use Rattle.std.specs.List.{FoldsTo, AllByRecursion}
 use Rattle.vt_cells.specs.Attrs.{default_attrs}
 use Rattle.vt_rows.specs.Row.{blank_row}
-use Rattle.vt_scan.specs.Automaton.{start, Event, State}
+use Rattle.vt_scan.specs.Automaton.{start, Event, State, run}
 use Rattle.vt_scan.specs.Scanner.{StandsFor}
-use Rattle.vt_scan.specs.Run.{run}
 use Rattle.vt_grid.specs.Page.{IsPage, Page, SameSize}
 use Rattle.vt_redraw.specs.Picture.{SamePictureSize}
 use Rattle.vt_redraw.specs.Steady.{IsSteady}

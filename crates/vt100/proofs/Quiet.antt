@@ -6,8 +6,7 @@ use Rattle.std.specs.List.{FoldsTo, AllByRecursion}
 use Rattle.std.proofs.lemmas.Bool.{false≢true}
 use Rattle.vt_cells.specs.Glyph.{columns_of}
 use Rattle.vt_rows.specs.Row.{RowValue}
-use Rattle.vt_scan.specs.Automaton.{State, Event, step_in, start}
-use Rattle.vt_scan.specs.Run.{run}
+use Rattle.vt_scan.specs.Automaton.{State, Event, step_in, start, run}
 use Rattle.vt_scan.specs.Scanner.{ScannerValue, StandsFor}
 use Rattle.vt_scan.specs.Table.{class_of, transition_of}
 use Rattle.vt_grid.specs.Printing.{pushes}

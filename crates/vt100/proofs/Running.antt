@@ -9,8 +9,7 @@ use Rattle.std.specs.List.{FoldsTo}
 use Rattle.std.specs.Prelude.{Err, IfOk, Ok, Result}
 use Rattle.vt_rows.specs.Row.{RowValue}
 use Rattle.vt_rows.proofs.RowTexts.{folds_then}
-use Rattle.vt_scan.specs.Automaton.{Event, State, Step, step_in}
-use Rattle.vt_scan.specs.Run.{run}
+use Rattle.vt_scan.specs.Automaton.{Event, State, Step, step_in, run}
 use Rattle.vt_scan.specs.Scanner.{Feeds, FeedsAll, HasNoEvent, ScannerValue, events_in, StandsFor}
 use Rattle.vt_scan.specs.Table.{class_of, transition_of}
 use Rattle.vt_scan.specs.declared.event.Events.{Events}

@@ -7,8 +7,7 @@ use Rattle.std.specs.List.{FoldsTo, AllByRecursion}
 use Rattle.vt_rows.specs.Basic.{Written, nothing_written}
 use Rattle.vt_rows.specs.Row.{RowValue, trimmed_row}
 use Rattle.vt_rows.proofs.RowTexts.{folds_then}
-use Rattle.vt_scan.specs.Automaton.{State, Step, Event, Step as Outcome, start}
-use Rattle.vt_scan.specs.Run.{run}
+use Rattle.vt_scan.specs.Automaton.{State, Step, Event, Step as Outcome, start, run}
 use Rattle.vt_scan.specs.Scanner.{StandsFor}
 use Rattle.vt_scan.proofs.Alike.{held_of, itself, both_stand, other_stands, runs_alike}
 use Rattle.vt_scan.proofs.Readback.{run-append}

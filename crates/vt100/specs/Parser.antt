@@ -2,7 +2,7 @@
 use Rattle.std.specs.Prelude.{◌≡◌, ◌⊎◌, ℕ, ◌<◌, ◌-◌, Bool, false, List, [], ◌∷◌, ◌++◌, length, take, slice_index_or}
 use Rattle.std.specs.List.{FoldsTo}
 use Rattle.vt_scan.specs.Automaton.{State, step_in}
-use Rattle.vt_scan.specs.Run as scan
+use Rattle.vt_scan.specs.Automaton as scan
 use Rattle.vt_scan.specs.Scanner.{HasNoEvent, ScannerValue, StandsFor}
 use Rattle.vt_scan.specs.Table.{class_of, transition_of}
 use Rattle.vt_scan.specs.declared.table.Kind.TheVariants.{OscString}

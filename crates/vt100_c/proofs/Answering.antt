@@ -5,8 +5,7 @@ use Rattle.std.proofs.Math.Seq.{take-add, take-length}
 use Rattle.std.proofs.lemmas.Bool.{false≢true}
 use Rattle.std.proofs.lemmas.List.{append-nil, drop-drop, get_or-drop, length-drop}
 use Rattle.std.specs.List.{FoldsTo}
-use Rattle.vt_scan.specs.Automaton.{Event, State, Step}
-use Rattle.vt_scan.specs.Run.{run}
+use Rattle.vt_scan.specs.Automaton.{Event, State, Step, run}
 use Rattle.vt_scan.specs.Scanner.{HasNoEvent, StandsFor}
 use Rattle.vt_scan.proofs.Readback.{run-append}
 use Rattle.vt_screen.specs.Run.{Performs}

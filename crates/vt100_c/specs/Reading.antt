@@ -6,7 +6,7 @@ use Rattle.vt_mirror.specs.Calls.{MirrorProcesses}
 use Rattle.vt_mirror.specs.Mirror.{MirrorValue}
 use Rattle.std.specs.List.{FoldsTo}
 use Rattle.vt_scan.specs.Automaton.{State}
-use Rattle.vt_scan.specs.Run as scan
+use Rattle.vt_scan.specs.Automaton as scan
 use Rattle.vt_scan.specs.Scanner.{StandsFor, unfinished_command}
 use Rattle.vt_screen.specs.Run as screen
 use Rattle.vt_screen.specs.Run.{Performs}

@@ -6,7 +6,6 @@ pub mod CellEq
 pub mod Op
 pub mod InputModes
 -- Errors and sinks
-pub mod Errors
 pub mod Refusals
 pub mod Sinks
 -- For models, private contracts and proofs only

@@ -34,7 +34,7 @@ impl From<AllocError> for Error {
 impl From<Error> for io::Error {
     ghost use Rattle.std.specs.IoError.{error_kind};
     ghost use Rattle.std.specs.Prelude.{◌≡◌};
-    ghost use Rattle.vt_cells.specs.Errors.{kind_of};
+    ghost use Rattle.vt_cells.specs.Refusals.{kind_of};
 
     ghost from_gives = { λ refused error. error_kind error ≡ kind_of refused };
 
@@ -49,7 +49,7 @@ impl From<Error> for io::Error {
 /// Formats the error as `out of memory`, `parser failed` or `no viewer number left`.
 impl fmt::Display for Error {
     ghost use Rattle.std.specs.Prelude.{Some};
-    ghost use Rattle.vt_cells.specs.Errors.{error_text};
+    ghost use Rattle.vt_cells.specs.Refusals.{error_text};
 
     ghost output = { λ e. Some (error_text e) };
 

@@ -27,6 +27,7 @@ pub(crate) struct DisplayCopy {
 
 impl Model for DisplayCopy {
     ghost use Rattle.std.specs.Prelude.{◌↔◌, IsTrue};
+    ghost use Rattle.vt_mirror.specs.Mirror.{ShowsAlike};
     ghost use Rattle.vt_redraw.specs.Steady.{IsSteady};
     ghost use Rattle.vt_screen.specs.Screen.{ScreenValue};
     ghost use Rattle.vt_screen.specs.Shown.{display};

@@ -5,7 +5,7 @@ ghost use Rattle.vt_cells.specs.Refusals.{OnlyOutOfMemory};
 ghost use Rattle.vt_grid.specs.Page.{SameSize};
 ghost use Rattle.vt_mirror.specs.Calls.{Asks, IsDiffFor, IsFullUpdate, IsPortableUpdate, IsUpdate, JoinsMirror, Leaves};
 ghost use Rattle.vt_mirror.specs.Calls.{MirrorProcesses, Resizes, default_options, scrolling_options};
-ghost use Rattle.vt_mirror.specs.Mirror.{MirrorValue, Puts, PutsAmong, ShowsFreshScreen, is_current, is_viewer, note_of};
+ghost use Rattle.vt_mirror.specs.Mirror.{Puts, PutsAmong, ShowsFreshScreen, is_current, is_viewer, note_of};
 ghost use Rattle.vt_mirror.specs.Kept.{IsRedraw};
 ghost use Rattle.vt_redraw.specs.Steady.{IsSteady};
 ghost use Rattle.vt_redraw.specs.declared.form.Form.{Form};
@@ -52,6 +52,7 @@ pub struct Mirror {
 }
 
 impl Model for Mirror {
+    ghost use Rattle.vt_mirror.specs.Mirror.{MirrorValue};
     ghost use Rattle.vt_mirror.specs.Kept.{IsSharing};
 
     ghost Value = { MirrorValue };

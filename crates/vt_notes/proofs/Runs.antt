@@ -6,8 +6,7 @@ use Rattle.std.proofs.lemmas.List.{append-nil, append_assoc}
 use Rattle.std.specs.List.{FoldsTo}
 use Rattle.vt_rows.specs.Row.{RowValue}
 use Rattle.vt_rows.proofs.RowTexts.{folds_then}
-use Rattle.vt_scan.specs.Automaton.{State, Event, start}
-use Rattle.vt_scan.specs.Run.{run}
+use Rattle.vt_scan.specs.Automaton.{State, Event, start, run}
 use Rattle.vt_scan.specs.Scanner.{StandsFor}
 use Rattle.vt_screen.specs.Meanings.{call_of}
 use Rattle.vt_screen.specs.Streamed.{row_of_call}

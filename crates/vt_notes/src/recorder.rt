@@ -2,7 +2,7 @@
 
 ghost use Rattle.std.specs.Prelude.{◌≡◌, ◌++◌, false, true, OnErr, OnOk};
 ghost use Rattle.vt_cells.specs.Refusals.{OnlyOutOfMemory};
-ghost use Rattle.vt_notes.specs.Noting.{Recorded, Records, nothing_recorded};
+ghost use Rattle.vt_notes.specs.Noting.{nothing_recorded};
 ghost use Rattle.vt_screen.specs.Capture.{all_rows, basic_texts, written_after_all};
 
 use std::alloc::Global;
@@ -22,6 +22,7 @@ pub struct Recorder {
 
 impl Model for Recorder {
     ghost use Rattle.std.specs.Prelude.{string_bytes};
+    ghost use Rattle.vt_notes.specs.Noting.{Recorded};
 
     ghost Value = { Recorded };
 
@@ -91,6 +92,8 @@ impl Recorder {
 /// Callbacks that append each row that scrolls off the main page to the capture, ignore rows of the
 /// alternate page, and do not change the screen.
 impl Callbacks for Recorder {
+    ghost use Rattle.vt_notes.specs.Noting.{Records};
+
     ghost does = { Records };
 
     #[tactic(auto, using(crate::proofs::Runs::other_call))]

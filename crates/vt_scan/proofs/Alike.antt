@@ -5,10 +5,9 @@ use Rattle.std.proofs.Math.Logic.{⊎_elim}
 use Rattle.std.proofs.lemmas.Bool.{cases_lt}
 use Rattle.std.proofs.lemmas.Bool.Decides.{nat_tests}
 use Rattle.vt_scan.specs.Automaton.{is_parameter, State, Step, EscDispatch, CsiDispatch, OscDispatch, Executed}
-use Rattle.vt_scan.specs.Automaton.{parameter_text, intermediates_of, parts_of, events_at_end, step_after, step_in}
+use Rattle.vt_scan.specs.Automaton.{parameter_text, intermediates_of, parts_of, events_at_end, step_after, step_in, run}
 use Rattle.vt_scan.specs.Parameters.{groups_of, total, first_numbers, table_of, GroupTable}
 use Rattle.vt_scan.specs.Table.{transition_of, class_of}
-use Rattle.vt_scan.specs.Run.{run}
 use Rattle.vt_scan.specs.Scanner.{ScannerValue, Reads, ReadsSequence, StandsFor}
 use Rattle.vt_scan.specs.Internals.{Fits, FitsEnding}
 use Rattle.vt_scan.specs.declared.table.Kind.{Kind}

@@ -22,9 +22,8 @@ use Rattle.unicode_width.proofs.KindLemmas.{kind_stepped}
 use Rattle.vt_cells.specs.Glyph.{columns_of}
 use Rattle.vt_cells.proofs.Glyphs.{columns_of-ascii}
 use Rattle.vt_scan.specs.Automaton.{State, Event, Step, Character, step_after, events_at_end, fresh_step}
-use Rattle.vt_scan.specs.Automaton.{character_step, step_in, start}
+use Rattle.vt_scan.specs.Automaton.{character_step, step_in, start, run}
 use Rattle.vt_scan.specs.Characters.{is_character, is_beginning, character_of, continues, is_second}
-use Rattle.vt_scan.specs.Run.{run}
 use Rattle.vt_scan.specs.Table.{class_of, transition_of}
 use Rattle.vt_scan.specs.declared.table.Class.{Class}
 use Rattle.vt_scan.specs.declared.table.Ending.TheVariants as ends

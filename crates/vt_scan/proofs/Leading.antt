@@ -10,10 +10,9 @@ use Rattle.std.proofs.lemmas.Bool.{cases_lt}
 use Rattle.std.proofs.lemmas.Bool.Decides.{nat_tests}
 use Rattle.vt_scan.specs.declared.table.Class.{Class}
 use Rattle.vt_scan.specs.Automaton as automaton
-use Rattle.vt_scan.specs.Automaton.{Step, is_parameter, step_after, step_in}
+use Rattle.vt_scan.specs.Automaton.{Step, is_parameter, step_after, step_in, run}
 use Rattle.vt_scan.specs.Internals.{Begins, Fits, IsUnended, Opens}
 use Rattle.vt_scan.specs.Parameters.{table_of}
-use Rattle.vt_scan.specs.Run.{run}
 use Rattle.vt_scan.specs.Scanner.{EndsEscape, Feeds, FeedsAll, ScannerValue, Reads, ReadsSequence, Follows, StandsFor}
 use Rattle.vt_scan.specs.Scanner.{is_final, is_intermediate, is_marker, starts_skipped}
 use Rattle.vt_scan.specs.Texts.{IsParameterText}

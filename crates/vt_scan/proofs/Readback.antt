@@ -11,8 +11,7 @@ use Rattle.std.specs.List.{AllByRecursion}
 use Rattle.std.specs.Prelude.{IfSome}
 use lib.Utf8.{next, scalar_cases}
 use Rattle.vt_scan.specs.Automaton.{State, Step, Event, step_in, Character, Executed, EscDispatch, start, step_after}
-use Rattle.vt_scan.specs.Automaton.{CsiDispatch, is_parameter, parameter_text, intermediates_of}
-use Rattle.vt_scan.specs.Run.{run}
+use Rattle.vt_scan.specs.Automaton.{CsiDispatch, is_parameter, parameter_text, intermediates_of, run}
 use Rattle.vt_scan.specs.Table.{transition_of, class_of}
 use Rattle.vt_scan.specs.Characters.{is_second, is_character, is_beginning, character_of, continues}
 use Rattle.vt_scan.specs.Texts.{back_with, IsParameterText}

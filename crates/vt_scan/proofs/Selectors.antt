@@ -5,10 +5,9 @@ use Rattle.std.specs.List.{AllByRecursion}
 use Rattle.std.specs.Prelude.{if◌then◌else◌}
 use Rattle.std.proofs.lemmas.Bool.Decides.{nat_tests}
 use Rattle.std.proofs.lemmas.List.{append_assoc}
-use Rattle.vt_scan.specs.Automaton.{State, Event, Step, Character, step_after, events_at_end, start}
-use Rattle.vt_scan.specs.Automaton.{fresh_step, character_step, step_in}
+use Rattle.vt_scan.specs.Automaton.{State, Event, Step, Character, step_after, events_at_end, start, fresh_step}
+use Rattle.vt_scan.specs.Automaton.{character_step, step_in, run}
 use Rattle.vt_scan.specs.Characters.{is_character, is_beginning, character_of}
-use Rattle.vt_scan.specs.Run.{run}
 use Rattle.vt_scan.specs.Selectors.{ReadsNoSelector, SpellsNoSelector}
 use Rattle.vt_scan.specs.Table.{class_of, transition_of}
 use Rattle.vt_scan.specs.declared.table.Class.{Class}

@@ -10,7 +10,7 @@ use Rattle.std.proofs.Math.Logic.{∥∥₁_map}
 use Rattle.vt_scan.specs.Table.{class_of, transition_of}
 use Rattle.vt_scan.specs.Characters.{is_character, is_beginning, character_of}
 use Rattle.vt_scan.specs.Automaton.{Step, Event, Character, Executed, step_after, fresh_step, character_step, step_in}
-use Rattle.vt_scan.specs.Automaton.{is_parameter, parameter_text, parts_of, State}
+use Rattle.vt_scan.specs.Automaton.{is_parameter, parameter_text, parts_of, State, run}
 use Rattle.vt_scan.specs.declared.table.Kind.{Kind}
 use Rattle.vt_scan.specs.declared.table.Kind.TheVariants.{Ground, Escape, EscapeIntermediate, CsiEntry, CsiParam}
 use Rattle.vt_scan.specs.declared.table.Kind.TheVariants.{CsiIntermediate, CsiIgnore, OscString, Skip}
@@ -28,7 +28,6 @@ use Rattle.vt_scan.specs.declared.event.Event as event
 use Rattle.vt_scan.specs.declared.event.Event.TheVariants as given
 use Rattle.vt_scan.specs.declared.event.Events.{Events}
 use Rattle.vt_scan.specs.declared.unfinished.Extended.TheVariants.{Further, Character as Decoded, Broken}
-use Rattle.vt_scan.specs.Run.{run}
 
 -- ==== The steps of the automaton, case by case.
 

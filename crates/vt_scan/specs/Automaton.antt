@@ -1,8 +1,8 @@
 -- The state of the scanner's automaton, and its step for a byte: the next state and at most two events. A state
 -- consists of its kind and the bytes collected in it. A sequence is interpreted as a whole when its last byte
--- arrives.
-use Rattle.std.specs.Prelude.{ℕ, Bool, not, ◌&&◌, ◌==◌, nat_lt, nat_le, List}
-use Rattle.std.specs.Prelude.{[], ◌∷◌, ◌++◌, take, filter, if◌then◌else◌}
+-- arrives. A run reads several bytes.
+use Rattle.std.specs.Prelude.{ℕ, Bool, not, ◌&&◌, ◌==◌, nat_lt, nat_le, List, [], ◌∷◌, ◌++◌, take, filter}
+use Rattle.std.specs.Prelude.{if◌then◌else◌}
 use Rattle.std.specs.List.{slice_split}
 use Rattle.vt_scan.specs.Table.{class_of, transition_of}
 use Rattle.vt_scan.specs.Parameters.{table_of}
@@ -101,3 +101,11 @@ abbrev pub step_in : Kind → List ℕ → ℕ → Step
 step_in Ground [] b = fresh_step b
 step_in Ground (x ∷ xs) b = character_step (x ∷ xs) b
 step_in kind text b = step_after kind text b (transition_of kind (class_of b))
+
+-- The result of reading the bytes one by one: the state after the last byte, and the events of all steps.
+abbrev pub run : State → List ℕ → Step
+run state [] = record { state = state; events = [] }
+run state (b ∷ bytes) =
+    let step = step_in state.kind state.collected b in
+    let rest = run step.state bytes in
+    record { state = rest.state; events = step.events ++ rest.events }

@@ -3,7 +3,6 @@ pub mod Table
 pub mod Characters
 pub mod Parameters
 pub mod Automaton
-pub mod Run
 pub mod Selectors
 -- The scanner
 pub mod Scanner

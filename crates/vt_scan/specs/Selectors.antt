@@ -2,8 +2,7 @@
 -- that are not parsed as U+FE0F.
 use Rattle.std.specs.Prelude.{◌≢◌, ℕ, List, [], ◌∷◌, take, drop}
 use Rattle.std.specs.List.{AllByRecursion}
-use Rattle.vt_scan.specs.Automaton.{State, Character}
-use Rattle.vt_scan.specs.Run.{run}
+use Rattle.vt_scan.specs.Automaton.{State, Character, run}
 
 -- The bytes don't contain the sequence EF B8 8F, the UTF-8 encoding of U+FE0F.
 abbrev pub SpellsNoSelector : List ℕ → Type 0

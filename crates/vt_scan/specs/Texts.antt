@@ -3,9 +3,8 @@ use Rattle.std.specs.Prelude.{ℕ, zero, ◌+◌, ◌≤◌, List, [], ◌∷◌
 use Rattle.std.specs.Prelude.{slice_index_or}
 use Rattle.std.specs.Char.{IsScalar}
 use Rattle.vt_cells.specs.Glyph.{columns_of}
-use Rattle.vt_scan.specs.Automaton.{Event, Step, start, Character}
+use Rattle.vt_scan.specs.Automaton.{Event, Step, start, Character, run}
 use Rattle.vt_scan.specs.Characters.{character_of, is_character}
-use Rattle.vt_scan.specs.Run.{run}
 
 -- ==== The output of functions that write escape sequences, and how the scanner reads it.
 

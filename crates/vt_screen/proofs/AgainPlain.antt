@@ -9,8 +9,7 @@ use Rattle.vt_cells.specs.Op.{Op, Hide, ClearAttrs, MoveTo, MoveRight, NextRow, 
 use Rattle.vt_cells.specs.Op.{EraseRest, EraseChars, SaveCursor, RestoreCursor, ChangeAttrs, Print, bytes_of}
 use Rattle.vt_cells.specs.Op.{bytes_of_all}
 use Rattle.vt_rows.specs.Row.{RowValue}
-use Rattle.vt_scan.specs.Automaton.{Event, Character, Executed, Step as Outcome, start}
-use Rattle.vt_scan.specs.Run.{run}
+use Rattle.vt_scan.specs.Automaton.{Event, Character, Executed, Step as Outcome, start, run}
 use Rattle.vt_scan.specs.Texts.{back_with}
 use Rattle.vt_scan.proofs.Readback.{read_control, read_written, run-append}
 use Rattle.vt_grid.specs.Canvas.{Canvas, canvas_after_op}

@@ -2,8 +2,7 @@
 use Rattle.std.proofs.Common.{◌≡◌, ℕ, List, ◌++◌, refl, sym, ap, subst, ◌∙◌, ◌≤◌, ◌<◌, Bool, [], length, length-append}
 use Rattle.std.proofs.Common.{arith}
 use Rattle.std.specs.List.{AllByRecursion}
-use Rattle.vt_scan.specs.Automaton.{Step as Outcome, start, State}
-use Rattle.vt_scan.specs.Run.{run}
+use Rattle.vt_scan.specs.Automaton.{Step as Outcome, start, State, run}
 use Rattle.vt_scan.proofs.Readback.{run-append}
 use Rattle.vt_redraw.specs.Steady.{IsSteady}
 use Rattle.vt_screen.specs.Again.{IsNoCallback, LeavesPlain, KeepsPlain}

@@ -6,8 +6,7 @@ use Rattle.std.specs.Prelude.{if◌then◌else◌, is_some}
 use Rattle.vt_cells.specs.Glyph.{columns_of}
 use Rattle.vt_rows.specs.Row.{RowValue}
 use Rattle.vt_rows.proofs.RowTexts.{folds_then}
-use Rattle.vt_scan.specs.Automaton.{Event, State, step_in}
-use Rattle.vt_scan.specs.Run.{run}
+use Rattle.vt_scan.specs.Automaton.{Event, State, step_in, run}
 use Rattle.vt_scan.specs.Table.{class_of, transition_of}
 use Rattle.vt_grid.specs.Moves.{feeds_out}
 use Rattle.vt_grid.specs.Outgoing.{left_by}

@@ -16,9 +16,8 @@ use Rattle.vt_cells.specs.declared.attrs.Intensity.{Intensity}
 use Rattle.vt_cells.specs.declared.attrs.Intensity.TheVariants.{Normal}
 use Rattle.vt_cells.proofs.Glyphs.{columns_of-le}
 use Rattle.vt_cells.proofs.Attributes.{same_attrs-itself}
-use Rattle.vt_scan.specs.Automaton.{Event, Step, CsiDispatch, start, fresh_step}
+use Rattle.vt_scan.specs.Automaton.{Event, Step, CsiDispatch, start, fresh_step, run}
 use Rattle.vt_scan.specs.Parameters.{groups_of, number_of, numbers_of, table_of}
-use Rattle.vt_scan.specs.Run.{run}
 use Rattle.vt_scan.specs.Table.{class_of}
 use Rattle.vt_scan.specs.Texts.{IsParameterText, back_with}
 use Rattle.vt_scan.proofs.Readback.{read_csi}

@@ -12,10 +12,9 @@ use Rattle.vt_redraw.specs.Certain.{is_certain_letter, is_certain_narrow, is_cer
 use Rattle.vt_redraw.specs.Certain.{is_early_letter, is_high_letter, is_late_letter, is_low_symbol, is_powerline}
 use Rattle.vt_redraw.specs.Doubts.{Unsure, doubts_of, no_doubts}
 use Rattle.vt_rows.specs.Cells.{put_cells}
-use Rattle.vt_scan.specs.Automaton.{character_step, fresh_step, start}
+use Rattle.vt_scan.specs.Automaton.{character_step, fresh_step, start, run}
 use Rattle.vt_scan.specs.Characters.{is_beginning, is_character}
 use Rattle.vt_scan.specs.Parameters.{groups_of, number_of, numbers_of, table_of}
-use Rattle.vt_scan.specs.Run.{run}
 use Rattle.vt_scan.specs.Table.{class_of}
 use Rattle.vt_screen.specs.Controls.{character_steps, control_steps, counted_step, escape_steps, other_steps, scrolling_steps}
 use Rattle.vt_screen.specs.Portable.{PortableEvents, control_use, csi_use, escape_use}

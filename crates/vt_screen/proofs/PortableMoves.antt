@@ -10,8 +10,7 @@ use Rattle.vt_cells.specs.Glyph.{columns_of}
 use Rattle.vt_cells.specs.Op.{MoveTo, MoveRight, NextRow, counted, csi}
 use Rattle.vt_cells.specs.declared.pos.Pos.{Pos}
 use Rattle.vt_cells.proofs.Glyphs.{columns_of-ascii}
-use Rattle.vt_scan.specs.Automaton.{Event, Step, start}
-use Rattle.vt_scan.specs.Run.{run}
+use Rattle.vt_scan.specs.Automaton.{Event, Step, start, run}
 use Rattle.vt_scan.proofs.ParameterNumbers.{decimal_groups, decimal_is_parameter}
 use Rattle.vt_grid.specs.Canvas.{Canvas}
 use Rattle.vt_grid.specs.Page.{Page}

@@ -21,9 +21,9 @@ use Rattle.vt_redraw.specs.Picture.{Picture}
 use Rattle.vt_redraw.specs.Uses.{PortableText, PortableOps, IsPortableOp, canvas_after_print, canvas_after_return}
 use Rattle.vt_redraw.specs.Uses.{change_intensities, doubts_after_text, doubts_after_op, Use, Graphic, Cup, Cr, Cuf, Bs}
 use Rattle.vt_redraw.specs.Uses.{Lf, Ed, El, Ech, Sgr, Dectcem, Decsc, Decrc, Other, IsPortableUse, doubts_after}
-use Rattle.vt_scan.specs.Automaton.{State, Step, Event, Character, Executed, EscDispatch, CsiDispatch, start, fresh_step}
+use Rattle.vt_scan.specs.Automaton.{State, Step, Event, Character, Executed, EscDispatch, CsiDispatch, start}
+use Rattle.vt_scan.specs.Automaton.{fresh_step, run}
 use Rattle.vt_scan.specs.Parameters.{table_of, groups_of, numbers_of, number_of}
-use Rattle.vt_scan.specs.Run.{run}
 use Rattle.vt_scan.specs.Table.{class_of}
 use Rattle.vt_scan.specs.Texts.{IsParameterText, back_with, place_groups}
 use Rattle.vt_scan.proofs.Readback.{read_control, read_written, events_then, run-append, read_csi}

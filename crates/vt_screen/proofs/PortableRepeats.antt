@@ -8,10 +8,9 @@ use Rattle.std.proofs.lemmas.Bool.Decides.{nat_tests}
 use Rattle.std.proofs.lemmas.List.{append_cancel_left, take-append-drop}
 use Rattle.vt_cells.specs.Glyph.{columns_of}
 use Rattle.vt_cells.specs.Op.{csi}
-use Rattle.vt_scan.specs.Automaton.{Event, Step, Character, Executed, EscDispatch, CsiDispatch, OscDispatch, start}
+use Rattle.vt_scan.specs.Automaton.{Event, Step, Character, Executed, EscDispatch, CsiDispatch, OscDispatch, start, run}
 use Rattle.vt_scan.specs.Internals.{Opens}
 use Rattle.vt_scan.specs.Parameters.{table_of}
-use Rattle.vt_scan.specs.Run.{run}
 use Rattle.vt_scan.specs.Texts.{back_with}
 use Rattle.vt_scan.proofs.Readback.{read_control, events_then, read_csi}
 use Rattle.vt_grid.specs.Page.{Page}

@@ -10,7 +10,7 @@ use Rattle.vt_cells.specs.Op.{csi}
 use Rattle.vt_cells.specs.declared.color.Color.TheVariants.{Idx}
 use Rattle.vt_rows.specs.Row.{RowValue}
 use Rattle.vt_scan.specs.Automaton.{State, Event, Step as Outcome, CsiDispatch, OscDispatch, step_after, step_in, start}
-use Rattle.vt_scan.specs.Run.{run}
+use Rattle.vt_scan.specs.Automaton.{run}
 use Rattle.vt_scan.specs.Parameters.{table_of}
 use Rattle.vt_scan.specs.Table.{class_of, transition_of}
 use Rattle.vt_scan.specs.Texts.{IsParameterText, back_with}

@@ -11,9 +11,8 @@ use Rattle.std.specs.List.{AllByRecursion, flat_map}
 use Rattle.std.specs.Prelude.{encode_utf8_all}
 use lib.Utf8.{next, scalar_cases}
 use Rattle.vt_cells.specs.Op.{csi, semicolon_list}
-use Rattle.vt_scan.specs.Automaton.{State, Step, start, fresh_step, step_after, step_in}
+use Rattle.vt_scan.specs.Automaton.{State, Step, start, fresh_step, step_after, step_in, run}
 use Rattle.vt_scan.specs.Characters.{is_second, is_character, is_beginning}
-use Rattle.vt_scan.specs.Run.{run}
 use Rattle.vt_scan.specs.Table.{class_of, transition_of}
 use Rattle.vt_scan.specs.Texts.{IsParameterText}
 use Rattle.vt_scan.specs.declared.table.Kind.{Kind}

@@ -4,8 +4,7 @@ use Rattle.std.proofs.Common.{refl, sym, ap, ap₂, subst, ◌∙◌, append_ass
 use Rattle.std.specs.Char.{encode_utf8}
 use Rattle.std.specs.List.{AllByRecursion, flat_map}
 use Rattle.std.proofs.lemmas.List.{flat_map_more}
-use Rattle.vt_scan.specs.Automaton.{State, Step, start}
-use Rattle.vt_scan.specs.Run.{run}
+use Rattle.vt_scan.specs.Automaton.{State, Step, start, run}
 use Rattle.vt_redraw.specs.Doubts.{Doubts}
 use Rattle.vt_screen.specs.CallsOfRun.{screen_after_all, screen_in}
 use Rattle.vt_screen.specs.Diffs.{diff_controls, diff_finals}

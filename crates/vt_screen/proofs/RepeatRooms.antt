@@ -25,10 +25,9 @@ use Rattle.vt_grid.specs.declared.page_step.PageStep.TheVariants as page
 use Rattle.vt_grid.specs.Moves.{at_bottom, line_feed}
 use Rattle.vt_grid.specs.Printing.{page_after_print, printed_by, glyph_put, room_made, lacks_room, wrapped_page, mark_printed}
 use Rattle.vt_grid.specs.Printing.{carries, made_narrow, made_wide, mark_column, mark_put, page_after_wrap, takes_mark, width_followed}
-use Rattle.vt_scan.specs.Automaton.{Step, Event, Character, Executed, EscDispatch, CsiDispatch, start, fresh_step}
+use Rattle.vt_scan.specs.Automaton.{Step, Event, Character, Executed, EscDispatch, CsiDispatch, start, fresh_step, run}
 use Rattle.vt_scan.specs.Parameters.{groups_of, number_of, numbers_of, table_of}
 use Rattle.vt_scan.specs.Table.{class_of}
-use Rattle.vt_scan.specs.Run.{run}
 use Rattle.vt_scan.specs.Texts.{IsParameterText, back_with}
 use Rattle.vt_scan.proofs.Readback.{read_control, read_escape, read_written, read_csi}
 use Rattle.vt_screen.specs.CallsOfRun.{screen_after_all, screen_in, steps_of_all}

@@ -9,8 +9,7 @@ use Rattle.std.proofs.lemmas.Bool.Decides.{nat_tests}
 use Rattle.vt_cells.specs.Glyph.{columns_of}
 use Rattle.vt_grid.specs.Canvas.{and_then}
 use Rattle.vt_redraw.specs.Fits.{IsDrawn}
-use Rattle.vt_scan.specs.Automaton.{State, Step, Event, Character, CsiDispatch, start}
-use Rattle.vt_scan.specs.Run.{run}
+use Rattle.vt_scan.specs.Automaton.{State, Step, Event, Character, CsiDispatch, start, run}
 use Rattle.vt_scan.specs.Texts.{back_with}
 use Rattle.vt_scan.proofs.Readback.{read_text, read_written, run-append, read_csi}
 use Rattle.vt_scan.proofs.ParameterNumbers.{decimal_groups, decimal_is_parameter}

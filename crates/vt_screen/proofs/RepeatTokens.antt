@@ -16,9 +16,8 @@ use Rattle.std.proofs.lemmas.Fmt.{length-decimal-le}
 use Rattle.std.proofs.lemmas.Str.{encode_ascii, len_utf8_bounds, length-encode}
 use Rattle.vt_cells.specs.Op.{csi, semicolon_list, Hide, bytes_of}
 use Rattle.vt_cells.proofs.Glyphs.{columns_of-ascii}
-use Rattle.vt_scan.specs.Automaton.{State, Step, Event, Character, CsiDispatch, fresh_step, start}
+use Rattle.vt_scan.specs.Automaton.{State, Step, Event, Character, CsiDispatch, fresh_step, start, run}
 use Rattle.vt_scan.specs.Parameters.{groups_of, number_of, numbers_of, table_of}
-use Rattle.vt_scan.specs.Run.{run}
 use Rattle.vt_scan.specs.Table.{class_of}
 use Rattle.vt_scan.specs.Texts.{IsParameterText, back_with}
 use Rattle.vt_scan.specs.Internals.{Opens}

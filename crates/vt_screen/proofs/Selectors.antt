@@ -17,8 +17,7 @@ use Rattle.vt_cells.specs.Glyph.{columns_of, has_room, is_selector, marked_text}
 use Rattle.vt_cells.proofs.Glyphs.{IsGlyphText-utf8}
 use Rattle.vt_rows.specs.Row.{RowValue, blank_row}
 use Rattle.vt_rows.specs.Cells.{at}
-use Rattle.vt_scan.specs.Automaton.{Character, Event, State}
-use Rattle.vt_scan.specs.Run.{run}
+use Rattle.vt_scan.specs.Automaton.{Character, Event, State, run}
 use Rattle.vt_scan.specs.Selectors.{ReadsNoSelector}
 use Rattle.vt_scan.proofs.Characters.{AreCoded, coded_run}
 use Rattle.vt_grid.specs.Page.{Page, IsPage, SameSize}

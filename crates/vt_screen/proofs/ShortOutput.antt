@@ -9,8 +9,7 @@ use Rattle.vt_cells.specs.Cell.{CellValue}
 use Rattle.vt_cells.specs.Op.{counted, csi}
 use Rattle.vt_cells.specs.declared.pos.Pos.{Pos}
 use Rattle.vt_rows.specs.Cells.{at}
-use Rattle.vt_scan.specs.Automaton.{start}
-use Rattle.vt_scan.specs.Run.{run}
+use Rattle.vt_scan.specs.Automaton.{start, run}
 use Rattle.vt_grid.specs.Page.{IsPage, cell_at, cursor_row}
 use Rattle.vt_grid.specs.declared.page_step.PageStep.TheVariants as page
 use Rattle.vt_grid.proofs.Pages.{page_at}

@@ -8,8 +8,7 @@ use Rattle.std.proofs.lemmas.Bool.{eqb-true, false≢true}
 use Rattle.std.proofs.lemmas.List.Elements.{All-take, All-weaker}
 use Rattle.vt_cells.specs.declared.modes.CursorStyle.{CursorStyle}
 use Rattle.vt_rows.specs.Row.{RowValue, IsRow}
-use Rattle.vt_scan.specs.Automaton.{State, Event, Character, Executed, EscDispatch, CsiDispatch, OscDispatch}
-use Rattle.vt_scan.specs.Run.{run}
+use Rattle.vt_scan.specs.Automaton.{State, Event, Character, Executed, EscDispatch, CsiDispatch, OscDispatch, run}
 use Rattle.vt_scan.proofs.Characters.{IsCoded, AreCoded, coded_run}
 use Rattle.vt_grid.specs.declared.page_step.PageStep.{PageStep}
 use Rattle.vt_grid.specs.Page.{Page, IsPage}

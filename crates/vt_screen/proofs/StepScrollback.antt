@@ -12,8 +12,7 @@ use Rattle.vt_cells.specs.Glyph.{columns_of}
 use Rattle.vt_cells.specs.Op.{FitsAttrs}
 use Rattle.vt_rows.specs.Cells.{cells_after_resize}
 use Rattle.vt_rows.specs.Row.{RowValue, blank_row, resized_row, cells_without_end, trimmed_row}
-use Rattle.vt_scan.specs.Automaton.{State, Event}
-use Rattle.vt_scan.specs.Run.{run}
+use Rattle.vt_scan.specs.Automaton.{State, Event, run}
 use Rattle.vt_grid.specs.Page.{Page, row_or}
 use Rattle.vt_grid.specs.Moves.{feeds_out}
 use Rattle.vt_grid.specs.Printing.{mark_column, pushes}

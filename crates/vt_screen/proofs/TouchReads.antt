@@ -12,9 +12,8 @@ use Rattle.vt_cells.specs.Glyph.{columns_of}
 use Rattle.vt_cells.specs.Op.{Op, Hide, ClearAttrs, MoveTo, MoveRight, NextRow, LineFeed, Backspace, EraseBelow}
 use Rattle.vt_cells.specs.Op.{EraseRest, EraseChars, SaveCursor, RestoreCursor, ChangeAttrs, Print, csi, counted, place}
 use Rattle.vt_cells.specs.Op.{semicolon_list, change_numbers, change_text, FitsAttrs, bytes_of, bytes_of_all}
-use Rattle.vt_scan.specs.Automaton.{State, Event, Character, Executed, CsiDispatch, step_in, start, fresh_step}
+use Rattle.vt_scan.specs.Automaton.{State, Event, Character, Executed, CsiDispatch, step_in, start, fresh_step, run}
 use Rattle.vt_scan.specs.Parameters.{table_of, groups_of, numbers_of, number_of}
-use Rattle.vt_scan.specs.Run.{run}
 use Rattle.vt_scan.specs.Table.{class_of}
 use Rattle.vt_scan.specs.Texts.{IsParameterText, back_with, place_groups}
 use Rattle.vt_scan.proofs.Readback.{read_written, read_csi}

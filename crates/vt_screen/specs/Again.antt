@@ -2,8 +2,7 @@
 use Rattle.std.specs.Prelude.{◌≡◌, ℕ, List}
 use Rattle.std.specs.List.{AllByRecursion}
 use Rattle.vt_grid.specs.Page.{SameSize}
-use Rattle.vt_scan.specs.Automaton.{start}
-use Rattle.vt_scan.specs.Run.{run}
+use Rattle.vt_scan.specs.Automaton.{start, run}
 use Rattle.vt_screen.specs.Calls.{CallValue, OnScroll}
 use Rattle.vt_screen.specs.CallsOfRun.{screen_in, steps_in}
 use Rattle.vt_screen.specs.Screen.{ScreenValue, IsScreen, above_page}

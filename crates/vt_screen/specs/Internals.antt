@@ -9,8 +9,7 @@ use Rattle.vt_cells.specs.Op.{Hide, bytes_of}
 use Rattle.vt_cells.specs.Glyph.{columns_of}
 use Rattle.vt_rows.specs.Basic.{Written}
 use Rattle.vt_rows.specs.Row.{RowValue}
-use Rattle.vt_scan.specs.Automaton.{Event, Character, CsiDispatch, start}
-use Rattle.vt_scan.specs.Run.{run}
+use Rattle.vt_scan.specs.Automaton.{Event, Character, CsiDispatch, start, run}
 use Rattle.vt_scan.specs.Texts.{IsParameterText}
 use Rattle.vt_grid.specs.Page.{Page, IsPage, SameSize}
 use Rattle.vt_grid.specs.Scrollback.{Scrollback, IsScrollback, no_scrollback}

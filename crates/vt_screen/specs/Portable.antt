@@ -8,8 +8,7 @@ use Rattle.vt_redraw.specs.Doubts.{Doubts, doubts_of}
 use Rattle.vt_redraw.specs.Picture.{Picture}
 use Rattle.vt_redraw.specs.Uses.{Use, Graphic, Cup, Cr, Cha, Cuf, Bs, Lf, Ed, El, Ech, Lines, Columns, Rep, Sgr}
 use Rattle.vt_redraw.specs.Uses.{Dectcem, Decsc, Decrc, Other, IsPortableUse, doubts_after}
-use Rattle.vt_scan.specs.Automaton.{Event, Character, Executed, EscDispatch, CsiDispatch, OscDispatch, start}
-use Rattle.vt_scan.specs.Run.{run}
+use Rattle.vt_scan.specs.Automaton.{Event, Character, Executed, EscDispatch, CsiDispatch, OscDispatch, start, run}
 use Rattle.vt_screen.specs.CallsOfRun.{screen_after_all}
 use Rattle.vt_screen.specs.Controls.{number_at, number_or, seen_of, sgr_steps, steps_of}
 use Rattle.vt_screen.specs.Screen.{ScreenValue, canvas_of}

@@ -7,8 +7,7 @@ use Rattle.std.specs.List.{AllByRecursion, flat_map}
 use Rattle.vt_cells.specs.Glyph.{columns_of}
 use Rattle.vt_cells.specs.Op.{csi}
 use Rattle.vt_redraw.specs.Fits.{IsDrawn}
-use Rattle.vt_scan.specs.Automaton.{Event, CsiDispatch, start}
-use Rattle.vt_scan.specs.Run.{run}
+use Rattle.vt_scan.specs.Automaton.{Event, CsiDispatch, start, run}
 use Rattle.vt_screen.specs.CallsOfRun.{screen_after_all, steps_in}
 use Rattle.vt_screen.specs.Controls.{number_or, seen_of, steps_of}
 use Rattle.vt_screen.specs.Reading.{terminal, terminal_after}

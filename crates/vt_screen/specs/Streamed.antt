@@ -5,8 +5,7 @@ use Rattle.std.specs.List.{AllByRecursion}
 use Rattle.vt_rows.specs.Basic.{nothing_written}
 use Rattle.vt_rows.specs.Row.{RowValue, trimmed_row}
 use Rattle.vt_grid.specs.Scrollback.{no_scrollback}
-use Rattle.vt_scan.specs.Automaton.{State, Event, EscDispatch}
-use Rattle.vt_scan.specs.Run.{run}
+use Rattle.vt_scan.specs.Automaton.{State, Event, EscDispatch, run}
 use Rattle.vt_screen.specs.Calls.{CallValue, OnScroll}
 use Rattle.vt_screen.specs.Capture.{all_rows, basic_texts, written_after_all}
 use Rattle.vt_screen.specs.Screen.{ScreenValue}

@@ -6,7 +6,7 @@ use Rattle.std.specs.declared.option.Option.{Option}
 use Rattle.std.specs.declared.result.Result.{Result}
 use Rattle.vt_rows.specs.Basic.{nothing_written}
 use Rattle.vt_scan.specs.Automaton.{start}
-use Rattle.vt_scan.specs.Run as scan
+use Rattle.vt_scan.specs.Automaton as scan
 use Rattle.vt_screen.specs.Capture.{basic_texts}
 use Rattle.vt_screen.specs.Contents.{contents_of}
 use Rattle.vt_screen.specs.MadeOf.{IsMadeOf, capture_finals, drawing_controls, drawing_finals, plain_controls}
