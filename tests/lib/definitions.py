@@ -1,4 +1,5 @@
 """Reads definition files, and follows names from clauses through imports to all definitions that they rest on."""
+import functools
 import os
 import re
 
@@ -58,6 +59,11 @@ class Definitions:
     def text(self, name):
         return "\n".join(self.lines[name])
 
+    @functools.cache
+    def quotable(self, name):
+        """Returns what may be quoted of a definition: its entries, and its first line."""
+        return {*entries(self.lines[name]), *entries(self.lines[name][:1])}
+
 
 def entries(lines):
     """Yields each line joined with the more deeply indented lines below it, without `pub` and similar words."""
@@ -78,7 +84,8 @@ class Walk:
 
     def __init__(self, root, other=None):
         self.root, self.sources = root, other.sources if other else Sources(root)
-        self.files, self.without, self.faults = other.files if other else {}, set(), []
+        self.files, self.above = (other.files, other.above) if other else ({}, {})
+        self.without, self.faults = set(), []
         self.needed, self.pending, self.depth = {}, [], 0
 
     def definitions(self, file):
@@ -151,13 +158,20 @@ class Walk:
                 self.walk(known.text(name), known.imports, file)
         self.depth = 0
 
+    def imports_above(self, function):
+        """Returns the imports of a source file that stand above a function."""
+        place = function.file, function.line
+        if place not in self.above:
+            self.above[place] = Imports()
+            lines = read(f"{self.root}/crates/{function.file}").split("\n")
+            for line in lines[: function.line]:
+                if re.match(r"\s*ghost use ", line):
+                    self.above[place].add(without_comment(line))
+        return self.above[place]
+
     def walk_clauses(self, function, labels, limit=1000):
         """Follows the names in the `requires` of a function, and in the given ones of its clauses."""
-        imports = Imports()
-        lines = read(f"{self.root}/crates/{function.file}").split("\n")
-        for line in lines[: function.line]:
-            if re.match(r"\s*ghost use ", line):
-                imports.add(without_comment(line))
+        imports = self.imports_above(function)
         for kind, label, text in function.clauses:
             if kind == "requires" or label in labels:
                 self.walk(text, imports)
@@ -168,6 +182,5 @@ class Walk:
         found = {text for it in functions for _, _, text in it.clauses}
         for file, name in self.needed:
             if file.endswith(".antt"):
-                lines = self.definitions(file).lines[name]
-                found.update([*entries(lines), *entries(lines[:1])])
+                found |= self.definitions(file).quotable(name)
         return found
