@@ -20,12 +20,14 @@ def names_in(line):
     return [it.split(" as ")[-1].strip() for it in re.split(r",\s*", found["names"])]
 
 
-def is_used(name, text):
-    """Returns whether a name occurs in a text. An operator such as `◌+◌` occurs if each of its parts does."""
+def is_used(name, text, words):
+    """Returns whether a name occurs in a text with these words. An operator such as `◌+◌` occurs if each of its parts does."""
     if "◌" in name:
         return all(it in text for it in name.split("◌") if it)
     if not re.search(r"\w", name):
         return name in text
+    if re.fullmatch(rf"{WORD}+", name):
+        return name in words
     return re.search(rf"(?<!{WORD}){re.escape(name)}(?!{WORD})", text) is not None
 
 
@@ -65,9 +67,12 @@ def unused(path):
     own = {at for at, _ in imports}
     text = ghost_lines(lines) if is_source else [re.sub(r"(^|\s)--(?![\w]).*$", "", it) for it in lines]
     text = ["" if at in own else it for at, it in enumerate(text)]
+    served = {}
     for at, names in imports:
         first, last = scope_of(lines, at) if is_source else (0, len(lines))
-        served = "\n".join(text[first:last])
+        if (first, last) not in served:
+            whole = "\n".join(text[first:last])
+            served[first, last] = whole, set(re.findall(rf"{WORD}+", whole))
         for name in names:
-            if not is_used(name, served):
+            if not is_used(name, *served[first, last]):
                 yield at + 1, name

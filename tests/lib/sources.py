@@ -3,6 +3,7 @@
 This is not a parser of the language. It relies on the layout of `rt fmt`: items and their closing braces begin at
 the left edge or four columns in, and each clause begins on its own line.
 """
+import functools
 import glob
 import os
 import re
@@ -68,12 +69,14 @@ class Function:
     def labels(self):
         return [label for kind, label, _ in self.clauses if kind == "ensures" and label]
 
+    @functools.cache
     def module(self):
         """The crate and modules of the function, such as `vt100::laws`."""
         crate, _, inside = self.file.partition("/src/")
         path = re.sub(r"\.rt$", "", inside).replace("/", "::")
         return crate if path in ("lib", "main") else f"{crate}::{path}"
 
+    @functools.cache
     def path(self):
         return "::".join(it for it in (self.module(), self.owner, self.name) if it)
 
