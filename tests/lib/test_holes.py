@@ -176,6 +176,10 @@ class All(unittest.TestCase):
         self.script("tests/pictures", "exit 1")
         self.assertEqual(self.ran(), (1, "21 passed, 1 failed"))
 
+    def test_a_failed_test_beside_the_gate(self):
+        self.script("tests/refusals", "sleep 0.1; exit 1")
+        self.assertEqual(self.ran(), (1, "21 passed, 1 failed"))
+
     def test_a_failed_first_test(self):
         self.script("tests/trust", "exit 1")
         self.assertEqual(self.ran(), (1, "6 passed, 1 failed"))
