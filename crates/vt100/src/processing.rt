@@ -181,6 +181,12 @@ fn process_one<CB: Callbacks>(
             Err(_) => Err(count - 1),
         };
     }
+    if scanner.is_stray(bytes[0]) {
+        return match print_apart(screen, callbacks, char::REPLACEMENT_CHARACTER) {
+            Ok(()) => Ok(1),
+            Err(_) => Err(0),
+        };
+    }
     process_rest(scanner, screen, callbacks, bytes)
 }
 

@@ -122,6 +122,50 @@ hangul c low high = columns_of-block c (omega arith) (omega arith) (grind (arith
 
 pub ruleset blocks_wide = (punctuation, hiragana, katakana, enclosed, hangul)
 
+-- ==== Combining characters, which take no columns.
+
+-- The combining diacritical marks up to U+0337. The width of U+0338 depends on the character before it.
+abbrev pub diacritic_block : List Range
+diacritic_block = (0x300, 0x337) ∷ []
+
+is_zero : Kind → Bool
+is_zero kinds.Zero = true
+is_zero _ = false
+
+-- A character is outside the block or takes no columns, given whether it is in the block and how wide it is.
+is_flat : Bool → Kind → Bool
+is_flat inside found = not inside || is_zero found
+
+flat : (c : ℕ) → c ≤ 0x10_FFFF → is_flat (in_ranges diacritic_block c) (kind c) ≡ true
+unfolding tables kind_stepped is_flat is_zero
+flat = Stepped-always (λ c. is_flat (in_ranges diacritic_block c) (kind c))
+    (zip_stepped is_flat (in_ranges diacritic_block) kind (of_ranges diacritic_block refl) kind_stepped) refl
+
+zero : (inside : Bool) (c : ℕ) (found : Kind) → is_flat inside found ≡ true → inside ≡ true
+    → (of_kind false c found).0 ≡ 0
+unfolding is_flat is_zero
+zero true c kinds.Zero fit is = refl
+zero true c kinds.Wide fit is = cc
+zero true c kinds.Emoji fit is = cc
+zero true c kinds.Narrow fit is = cc
+zero true c kinds.Ambiguous fit is = cc
+zero true c kinds.Alef fit is = cc
+zero true c kinds.KhmerLetter fit is = cc
+zero true c kinds.TifinaghConsonant fit is = cc
+zero true c kinds.LisuTone fit is = cc
+zero true c kinds.RegionalIndicator fit is = cc
+zero true c kinds.EmojiModifier fit is = cc
+zero true c kinds.Single fit is = cc
+zero false c found fit is = cc
+
+-- These combining characters take no columns.
+pub diacritics : (c : ℕ) → 0x300 ≤ c → c ≤ 0x337 → columns_of c ≡ Some 0
+unfolding columns_of char_width alone in_ranges
+diacritics c low high =
+    let inside : in_ranges diacritic_block c ≡ true = grind (arith, nat_tests) in
+    let none = zero (in_ranges diacritic_block c) c (kind c) (flat c (omega arith)) inside in
+    grind (arith, nat_tests, none)
+
 -- ==== Texts of glyphs: the first character, and one more combining character.
 
 -- A character takes one to four bytes in UTF-8.

@@ -22,6 +22,9 @@ pub fn columns(c: char) -> Option<u8>
     if is_ideograph(code) {
         return Some(2);
     }
+    if is_diacritic(code) {
+        return Some(0);
+    }
     match c.width() {
         Some(width) => Some(width.min(2) as u8),
         None => if code < 0x100 { None } else { Some(1) },
@@ -43,4 +46,14 @@ fn is_ideograph(code: u32) -> bool
         return true;
     }
     matches!(code, 0x3000..=0x3029 | 0x3041..=0x3096 | 0x309B..=0x30FF | 0xAC00..=0xD7A3)
+}
+
+/// Returns whether `code` is one of the most frequent combining characters, U+0300 to U+0337, which
+/// take no columns. For such a character, the width table need not be searched.
+#[inline]
+#[tactic(auto, using(crate::proofs::Glyphs::diacritics))]
+fn is_diacritic(code: u32) -> bool
+    ensures { IsTrue result → columns_of code ≡ Some 0 }
+{
+    matches!(code, 0x300..=0x337)
 }

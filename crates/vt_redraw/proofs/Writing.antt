@@ -14,7 +14,7 @@ use Rattle.vt_cells.specs.Attrs.{same_intensity, same_attrs, Attrs, default_attr
 use Rattle.vt_cells.specs.Cell.{CellValue, blank, glyph, right_half, is_blank, attrs_of, default_blank, is_glyph}
 use Rattle.vt_cells.specs.Cell.{IsCell, is_right_half, is_wide, same_cell, text_of}
 use Rattle.vt_cells.specs.Op.{Op, ChangeAttrs, MoveTo, bytes_of, bytes_of_all, change_text, cursor_move_ops, ClearAttrs}
-use Rattle.vt_cells.specs.Op.{Print}
+use Rattle.vt_cells.specs.Op.{Print, change_numbers, csi, semicolon_list}
 use Rattle.vt_cells.specs.Glyph.{glyph_columns}
 use Rattle.vt_cells.proofs.Sinks.{gathered_then}
 use Rattle.vt_cells.proofs.Attributes.{attrs_of-same, two_parts, same_attrs-itself}
@@ -47,6 +47,26 @@ changing_bytes was new =
 
 pub change_written : (was new : Attrs) → change_text was new ≡ bytes_of_all (attr_ops was new)
 change_written was new = sym (changing_bytes was new)
+
+plain_change : (was new : Attrs) → same_attrs was new ≡ false → same_attrs new default_attrs ≡ true →
+    change_text was new ≡ csi [] 0x6D
+unfolding change_text
+plain_change was new other plain = rw other (rw plain refl)
+
+styled_change : (was new : Attrs) → same_attrs was new ≡ false → same_attrs new default_attrs ≡ false →
+    change_text was new ≡ csi (semicolon_list (change_numbers was new)) 0x6D
+unfolding change_text
+styled_change was new other styled = rw other (rw styled refl)
+
+-- The output of a change to the default attributes is a reset.
+pub plain_written : (was new : Attrs) → same_attrs was new ≡ false → same_attrs new default_attrs ≡ true →
+    csi [] 0x6D ≡ bytes_of_all (attr_ops was new)
+plain_written was new other plain = sym (plain_change was new other plain) ∙ change_written was new
+
+-- The output of a change to other attributes has their numbers.
+pub styled_written : (was new : Attrs) → same_attrs was new ≡ false → same_attrs new default_attrs ≡ false →
+    csi (semicolon_list (change_numbers was new)) 0x6D ≡ bytes_of_all (attr_ops was new)
+styled_written was new other styled = sym (styled_change was new other styled) ∙ change_written was new
 
 no_swap : (a : Attrs) → swaps_intensity a a ≡ false
 no_swap a = by_kind a.intensity where

@@ -1,8 +1,8 @@
 //! The pen: the cursor position and attributes of the terminal that reads the output, and the form
 //! of the output.
 
-ghost use Rattle.std.specs.Prelude.{◌≡◌, ◌&&◌, ◌+◌, ◌≤◌, ◌++◌, OnOk, length, not, true};
-ghost use Rattle.vt_cells.specs.Attrs.{default_attrs};
+ghost use Rattle.std.specs.Prelude.{◌≡◌, ◌&&◌, ◌+◌, ◌≤◌, ◌++◌, OnOk, false, length, not, true};
+ghost use Rattle.vt_cells.specs.Attrs.{default_attrs, same_attrs};
 ghost use Rattle.vt_cells.specs.Op.{bytes_of_all};
 ghost use Rattle.vt_redraw.specs.Internals.{AppendsOrStops};
 ghost use Rattle.vt_redraw.specs.Script.{attr_ops, attr_ops_in, move_ops, is_at, pen_at, pen_in, pen_with};
@@ -188,11 +188,12 @@ impl Pen {
     }
 }
 
-/// Appends the SGR sequences that change the attributes from `was` to `new` in the given form, or
-/// nothing if they are equal.
+/// Appends the SGR sequences that change the attributes from `was` to `new` in the given form. The
+/// two must differ.
 #[inline(always)]
 fn push_change(buffer: &mut Buffer, form: Form, was: Attrs, new: Attrs)
-    requires { length buffer.old + 67 ≤ 256 }
+    requires fits { length buffer.old + 67 ≤ 256 }
+    requires differ { same_attrs was new ≡ false }
     ensures text { buffer.new ≡ buffer.old ++ bytes_of_all (attr_ops_in form was new) }
     ensures room { length buffer.new ≤ length buffer.old + 67 }
 {
@@ -202,16 +203,21 @@ fn push_change(buffer: &mut Buffer, form: Form, was: Attrs, new: Attrs)
     }
 }
 
-/// Appends the SGR sequence that changes the attributes from `was` to `new` in the fixed form, or
-/// nothing if they are equal.
+/// Appends the SGR sequence that changes the attributes from `was` to `new` in the fixed form. The
+/// two must differ: callers have already tested that.
 #[inline(never)]
-#[tactic(auto, using(crate::proofs::Writing::change_written))]
+#[tactic(auto, using(crate::proofs::Writing::plain_written, crate::proofs::Writing::styled_written))]
 fn push_fixed_change(buffer: &mut Buffer, was: Attrs, new: Attrs)
-    requires { length buffer.old + 67 ≤ 256 }
+    requires fits { length buffer.old + 67 ≤ 256 }
+    requires differ { same_attrs was new ≡ false }
     ensures text { buffer.new ≡ buffer.old ++ bytes_of_all (attr_ops was new) }
     ensures room { length buffer.new ≤ length buffer.old + 67 }
 {
-    ChangeAttrs { was, new }.push(buffer);
+    if new.is_same(&Attrs::new()) {
+        buffer.push("\x1b[m");
+    } else {
+        buffer.push_change(was, new);
+    }
 }
 
 /// Appends the SGR sequences that change the attributes from `was` to `new` in the portable form, or
@@ -264,6 +270,9 @@ pub fn write_change_in<S: Sink>(
 ) -> Result<(), S::Error>
     ensures { AppendsOrStops result (S.text sink.old) (S.text sink.new) (attr_ops_in form was new) }
 {
+    if was.is_same(&new) {
+        return Ok(());
+    }
     let mut buffer = Buffer::new();
     push_change(&mut buffer, form, was, new);
     buffer.flush(sink)

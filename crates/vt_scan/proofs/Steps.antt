@@ -351,6 +351,17 @@ control_feeds held b is none low other = λ s stands.
     (subst (λ (c : List ℕ). Follows held (one_event (given.Executed b)) (step_in Ground c b)) (sym collected)
     (fresh_control held b (one_event (given.Executed b)) is none low other refl))
 
+-- A byte that begins no character, in the ground state, leaves the data of the scanner unchanged.
+pub stray_feeds : (held : ScannerValue) (b : ℕ) → held.kind ≡ Ground → held.unfinished ≡ [] →
+    0x80 ≤ b → is_beginning (b ∷ []) ≡ false → Feeds held b held (one_event (given.Character 0xFFFD))
+stray_feeds held b is none high broken = λ s stands.
+    let kind : s.kind ≡ Ground = sym stands.kind ∙ is in
+    let read : Reads held Ground s.collected = subst (λ (k : Kind). Reads held k s.collected) is stands.reads in
+    let collected : s.collected ≡ [] = sym read ∙ none in
+    subst (λ (k : Kind). Follows held (one_event (given.Character 0xFFFD)) (step_in k s.collected b)) (sym kind)
+    (subst (λ (c : List ℕ). Follows held (one_event (given.Character 0xFFFD)) (step_in Ground c b)) (sym collected)
+    (fresh_broken held b (one_event (given.Character 0xFFFD)) is none high broken refl))
+
 -- The events at the end of a sequence are those of the automaton, because entering the next state clears nothing that
 -- they refer to.
 given_by : (old new : ScannerValue) (next : Kind) (end : ending.Ending) (text : List ℕ) (b : ℕ) → old.kind ≢ Ground

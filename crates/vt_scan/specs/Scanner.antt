@@ -1,6 +1,7 @@
 -- The data that a scanner holds about the bytes that it has read, the states of the automaton that this data can
 -- represent, and the meaning of the events that the scanner returns.
-use Rattle.std.specs.Prelude.{◌≡◌, ◌≢◌, ℕ, ◌<◌, ◌≤◌, ◌==◌, ◌&&◌, ◌||◌, nat_le, Bool, false, List, [], ◌++◌, length, map, option_to_list}
+use Rattle.std.specs.Prelude.{◌≡◌, ◌≢◌, ℕ, ◌<◌, ◌≤◌, ◌==◌, ◌&&◌, ◌||◌, nat_le, Bool, false, List, [], ◌∷◌, ◌++◌, length, map, option_to_list}
+use Rattle.vt_scan.specs.Characters.{is_beginning}
 use Rattle.vt_scan.specs.Parameters.{GroupTable, table_of}
 use Rattle.vt_scan.specs.Automaton as automaton
 use Rattle.vt_scan.specs.Automaton.{State, Step, is_parameter, parameter_text, intermediates_of, parts_of, step_in, run}
@@ -81,6 +82,11 @@ ReadsItself held b = (held.kind ≡ Ground) × (held.unfinished ≡ []) × (0x20
 -- ESC.
 abbrev pub ExecutesItself : ScannerValue → ℕ → Type 0
 ExecutesItself held b = (held.kind ≡ Ground) × (held.unfinished ≡ []) × (b < 0x20) × (b ≢ 0x1B)
+
+-- The scanner is in the ground state with no incomplete character, and the byte is neither ASCII nor the first byte of a
+-- character.
+abbrev pub IsStray : ScannerValue → ℕ → Type 0
+IsStray held b = (held.kind ≡ Ground) × (held.unfinished ≡ []) × (0x80 ≤ b) × (is_beginning (b ∷ []) ≡ false)
 
 -- Feeding the given byte performs the automaton's step from every state that the scanner can be in, and returns the
 -- events of that step.

@@ -81,7 +81,7 @@ impl Unfinished {
         ensures value { result ≡ is_beginning (byte ∷ []) }
         ensures keeps { self.new ≡ (if result then byte ∷ [] else []) }
     {
-        let is_first = (0xC2..=0xF4).contains(&byte);
+        let is_first = is_first_byte(byte);
         if is_first {
             self.bytes = Bytes::One(byte);
         }
@@ -98,6 +98,14 @@ impl Unfinished {
         self.bytes = bytes;
         extended
     }
+}
+
+/// Returns whether `byte` can be the first byte of a multibyte UTF-8 character.
+#[inline(always)]
+pub(crate) fn is_first_byte(byte: u8) -> bool
+    ensures { result ≡ is_beginning (byte ∷ []) }
+{
+    (0xC2..=0xF4).contains(&byte)
 }
 
 /// Returns the first character of `bytes` and its length in bytes. Returns `None` unless `bytes`

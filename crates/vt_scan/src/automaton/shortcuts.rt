@@ -3,11 +3,11 @@
 ghost use Rattle.std.specs.Prelude.{◌≡◌, ◌≢◌, ◌≤◌, ◌<◌, ◌-◌, ◌↔◌, ℕ};
 ghost use Rattle.std.specs.Prelude.{[], ◌∷◌, All, IfOk, IfSome};
 ghost use Rattle.std.specs.Prelude.{IsErr, IsSome, IsTrue, None, OnErr, Some};
-ghost use Rattle.std.specs.Prelude.{length, slice_index_or, take, true};
+ghost use Rattle.std.specs.Prelude.{false, length, slice_index_or, take, true};
 ghost use Rattle.vt_cells.specs.Refusals.{OnlyOutOfMemory};
 ghost use Rattle.vt_scan.specs.Automaton.{Character};
-ghost use Rattle.vt_scan.specs.Characters.{is_character};
-ghost use Rattle.vt_scan.specs.Scanner.{ExecutesItself, Feeds, FeedsAll, HasNoEvent, ReadsItself};
+ghost use Rattle.vt_scan.specs.Characters.{is_beginning, is_character};
+ghost use Rattle.vt_scan.specs.Scanner.{ExecutesItself, Feeds, FeedsAll, HasNoEvent, IsStray, ReadsItself};
 ghost use Rattle.vt_scan.specs.Internals.{IsUnended};
 ghost use Rattle.vt_scan.specs.Table.{class_of, transition_of};
 ghost use Rattle.vt_scan.specs.declared.event.Event.{Event};
@@ -17,7 +17,7 @@ ghost use Rattle.vt_scan.specs.declared.table.Transition.{Transition};
 use super::Scanner;
 use crate::lengths::{printable_len, text_len, unended_len};
 use crate::table::Kind;
-use crate::unfinished::first_character;
+use crate::unfinished::{first_character, is_first_byte};
 use vt_cells::Error;
 
 impl Scanner {
@@ -59,6 +59,18 @@ impl Scanner {
         ensures control { IsTrue result ↔ ExecutesItself self.now byte }
     {
         is_control_byte(byte) && self.is_fresh()
+    }
+
+    /// Returns whether feeding `byte` would only report U+FFFD: no sequence or character is
+    /// incomplete, and no character begins with `byte` (Unicode Standard, section 3.9, Table 3-7).
+    /// Feeding such a byte leaves the scanner unchanged, so the caller can skip it.
+    #[inline(always)]
+    pub fn is_stray(&self, byte: u8) -> bool
+        ensures feeds { IsTrue result
+            → Feeds self.now byte self.now (record { first = Some (Event.Character 0xFFFD); second = None }) }
+        ensures stray { IsTrue result ↔ IsStray self.now byte }
+    {
+        is_stray_byte(byte) && self.is_fresh()
     }
 
     /// Returns the number of leading bytes that belong to an ignored control string (DCS, SOS, PM
@@ -174,4 +186,12 @@ fn is_control_byte(byte: u8) -> bool
     ensures { IsTrue result ↔ ((byte < 0x20) × (byte ≢ 0x1B)) }
 {
     byte < 0x20 && byte != 0x1B
+}
+
+/// Returns whether `byte` is above 7F and no UTF-8 character begins with it.
+#[inline(always)]
+fn is_stray_byte(byte: u8) -> bool
+    ensures { IsTrue result ↔ ((0x80 ≤ byte) × (is_beginning (byte ∷ []) ≡ false)) }
+{
+    byte >= 0x80 && !is_first_byte(byte)
 }

@@ -1,8 +1,12 @@
--- A complete character of several bytes.
-use Rattle.std.proofs.Common.{◌-◌, [], ◌∷◌, inl, inr, refl, take, arith, rules}
+-- A complete character of several bytes, or a byte that begins no character.
+use Rattle.std.proofs.Common.{◌-◌, [], ◌∷◌, List, ℕ, get_or, inl, inr, refl, subst, sym, take, arith, rules}
+use Rattle.std.proofs.lemmas.List.{take_more}
 use Rattle.vt_scan.specs.Automaton.{Character}
-use Rattle.vt100.specs.Parser.{parser_value, stage}
-use Rattle.vt100.proofs.Running.{stopped_at_last, known_ran, known_stopped, some_read, stopped_in}
+use Rattle.vt_scan.specs.declared.event.Event.TheVariants as given
+use Rattle.vt_scan.proofs.Steps.{one_event}
+use Rattle.vt100.specs.Parser.{Ran, parser_value, stage}
+use Rattle.vt100.proofs.Running.{byte_ran, stopped_at_first, stopped_at_last, known_ran, known_stopped, some_read}
+use Rattle.vt100.proofs.Running.{stopped_in, stopped_within}
 use Rattle.vt100.proofs.processing.process_one.Goals as goal
 
 pub returns-in-Err-clause-read : goal.returns-in-Err-clause-read
@@ -32,3 +36,32 @@ returns-in-Ok-clause-read g c =
 
 pub returns-in-Ok-clause-last : goal.returns-in-Ok-clause-last
 returns-in-Ok-clause-last g c = inr (search rules, c.in-Some.ensures.before)
+
+pub returns-in-Err-print_apart-clause-read : goal.returns-in-Err-print_apart-clause-read
+returns-in-Err-print_apart-clause-read g c =
+    let does = g.CB.Callbacks.does in
+    let held = c.args.scanner.now in
+    let bytes = c.args.bytes.now in
+    let before = parser_value held c.args.screen.now c.args.callbacks.now in
+    let now = parser_value held c.print_apart.new.screen c.print_apart.new.callbacks in
+    let events = one_event (given.Character 0xFFFD) in
+    let fed = c.is_stray.ensures.feeds c.if-is_stray.true in
+    let stops = inl (c.in-Err-print_apart.ensures.stopped refl) in
+    stopped_in does before now bytes 0
+    (inr (stopped_within does before before now held bytes 0 events c.requires (λ s stands. (stands, refl)) fed stops))
+    (stopped_at_first does before now held bytes events c.requires fed stops)
+
+pub returns-in-Ok-print_apart-clause-read : goal.returns-in-Ok-print_apart-clause-read
+returns-in-Ok-print_apart-clause-read g c =
+    let does = g.CB.Callbacks.does in
+    let held = c.args.scanner.now in
+    let bytes = c.args.bytes.now in
+    let before = parser_value held c.args.screen.now c.args.callbacks.now in
+    let now = parser_value held c.print_apart.new.screen c.print_apart.new.callbacks in
+    some_read does before now bytes 1 c.requires
+    (subst (λ (text : List ℕ). Ran does before text now) (sym (take_more bytes 0 0 c.requires))
+    (byte_ran does before now (get_or bytes 0 0) (one_event (given.Character 0xFFFD))
+    (c.is_stray.ensures.feeds c.if-is_stray.true) (stage now, c.in-Ok-print_apart.ensures.done, refl)))
+
+pub returns-in-Ok-print_apart-clause-last : goal.returns-in-Ok-print_apart-clause-last
+returns-in-Ok-print_apart-clause-last g c = inr (omega arith, λ s stands. refl)
