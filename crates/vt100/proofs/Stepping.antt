@@ -195,8 +195,6 @@ pub ruleset steps_taken = (tested_steps, taken)
 
 pub ruleset tested_refusal = (nat_tests, taken, refused)
 
-pub ruleset steps_or_refusal = (steps_taken, refused)
-
 pub ruleset called_or_refused = (called, tested_refusal)
 
 pub ruleset pages_exchanged = (nat_tests, alternating, alternating_stops, freshening, freshening_stops)

@@ -3,7 +3,7 @@
 ghost use Rattle.std.specs.Prelude.{◌≡◌, ◌≢◌, ◌-◌, ◌<◌, None, Some, length};
 ghost use Rattle.vt100.specs.Internals.{Does, DoesOrStops, report_of};
 ghost use Rattle.vt_screen.specs.Calls.{UnhandledCsi};
-ghost use Rattle.vt_screen.specs.Controls.{counted_step, csi_steps, intermediate_steps, number_at, number_or};
+ghost use Rattle.vt_screen.specs.Controls.{counted_step, csi_steps, intermediate_steps, number_at, number_or, other_steps};
 ghost use Rattle.vt_screen.specs.Controls.{scrolling_steps, page_erasing, unmarked_steps, private_steps};
 ghost use Rattle.vt_screen.specs.Controls.{row_erasing, size_or, space_steps, style_of, window_steps, seen_of};
 ghost use Rattle.vt_grid.specs.declared.grid.moves.CursorMove.TheVariants.{To};
@@ -126,7 +126,7 @@ fn unmarked_by_table<CB: Callbacks>(
 /// Returns `Error::OutOfMemory` if an allocation fails. The steps before the
 /// failing one remain in effect.
 #[inline(always)]
-#[tactic(auto, using(crate::proofs::Stepping::steps_or_refusal), unfolding(vt_screen::specs::Controls::scrolling_steps, vt_screen::specs::Controls::other_steps))]
+#[tactic(auto, using(crate::proofs::Stepping::tested_refusal), unfolding(vt_screen::specs::Controls::scrolling_steps))]
 fn uncounted<CB: Callbacks>(
     screen: &mut Screen,
     callbacks: &mut CB,
@@ -143,16 +143,16 @@ fn uncounted<CB: Callbacks>(
         callbacks.new screen.new result }
 {
     match sequence.byte {
-        b'S' => scrolling::su(screen, callbacks, count)?,
-        b'b' => repeat(screen, callbacks, count)?,
-        b'f' => move_to(screen, sequence.parameters),
-        b'J' => erase_page(screen, callbacks, sequence),
-        b'K' => erase_row(screen, callbacks, sequence),
-        b'r' => set_region(screen, sequence.parameters),
-        b't' => window(screen, callbacks, sequence),
-        _ => sequence.report(screen, callbacks),
+        b'S' => {
+            scrolling::su(screen, callbacks, count)?;
+            Ok(())
+        }
+        b'b' => repeat(screen, callbacks, count),
+        _ => {
+            other(screen, callbacks, sequence);
+            Ok(())
+        }
     }
-    Ok(())
 }
 
 /// Returns the page step that the control sequence with the final byte `byte` and the parameter
@@ -182,6 +182,31 @@ fn counted(byte: u8, count: u16) -> Option<PageStep>
         _ => return None,
     };
     Some(step)
+}
+
+/// Performs HVP, ED, EL, DECSTBM or a window operation, or reports an unknown
+/// control sequence.
+///
+/// CUP and SGR never reach this function, because [`unmarked`] handles them.
+#[inline(always)]
+#[tactic(auto, using(crate::proofs::Stepping::tested_steps), unfolding(vt_screen::specs::Controls::other_steps))]
+fn other<CB: Callbacks>(screen: &mut Screen, callbacks: &mut CB, sequence: Sequence<'_>)
+    requires report { report_of sequence
+        ≡ UnhandledCsi None None sequence.parameters.now.groups sequence.byte }
+    requires position { sequence.byte ≢ 0x48 }
+    requires rendition { sequence.byte ≢ 0x6D }
+    ensures { Does CB.does callbacks.old screen.old
+        (other_steps sequence.entry.parameters.now.groups sequence.entry.byte (seen_of screen.old))
+        callbacks.new screen.new }
+{
+    match sequence.byte {
+        b'f' => move_to(screen, sequence.parameters),
+        b'J' => erase_page(screen, callbacks, sequence),
+        b'K' => erase_row(screen, callbacks, sequence),
+        b'r' => set_region(screen, sequence.parameters),
+        b't' => window(screen, callbacks, sequence),
+        _ => sequence.report(screen, callbacks),
+    }
 }
 
 /// Performs CUP or HVP. The row and column are 1-based and default to 1.

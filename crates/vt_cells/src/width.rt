@@ -45,7 +45,10 @@ fn is_ideograph(code: u32) -> bool
     if code >= 0x3250 && code <= 0xA48C {
         return true;
     }
-    matches!(code, 0x3000..=0x3029 | 0x3041..=0x3096 | 0x309B..=0x30FF | 0xAC00..=0xD7A3)
+    if code > 0xA48C {
+        return matches!(code, 0xAC00..=0xD7A3);
+    }
+    matches!(code, 0x3000..=0x3029 | 0x3041..=0x3096 | 0x309B..=0x30FF)
 }
 
 /// Returns whether `code` is one of the most frequent combining characters, U+0300 to U+0337, which

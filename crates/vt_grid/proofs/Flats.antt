@@ -9,7 +9,7 @@ use Rattle.vt_rows.specs.Internals.{rotation_source}
 use Rattle.std.specs.Vec.{with_items}
 use Rattle.std.proofs.lemmas.List.{with_items_is, length-take, length-drop, length-replicate, get_or-take}
 use Rattle.std.proofs.lemmas.List.{get_or-drop, get_or-replicate, get_or_default, ext_get_or, length-map, take-take}
-use Rattle.std.proofs.lemmas.List.{length-set, get_or-map, get_or-set_same, get_or-set_other, map-set}
+use Rattle.std.proofs.lemmas.List.{length-set, set-set, get_or-map, get_or-set_same, get_or-set_other, map-set}
 use Rattle.std.proofs.lemmas.List.FromFn.{length-map-range_with_len, get_or-map-range_with_len, map-range_with_len_more}
 use Rattle.std.proofs.lemmas.Slice.{between_is, take-put_mid_below, drop-put_mid, between-put_mid}
 use borrow.Rule.Slice.PartMut.{put_mid, same_len_mid}
@@ -78,6 +78,16 @@ written_part w u n p a k v now xs new e was f h i j few l =
     (omega (arith, l, length-take u (drop (p * w) v.items), length-drop (p * w) v.items, inside, f, few)) in
     ap (λ (u : Vec CellValue Global). u.items) (e ∙ (λ t. with_items v (put_mid (i t) (j t) (was t) new)))
     ∙ with_items_is v (put_mid (p * w) u v.items new) (size ∙ sym v.ok.0)
+
+-- A write to an equal vector `same` yields the same cells.
+pub written_again : (w u n p a k : ℕ) (v same : Vec CellValue Global) (xs new : List CellValue) →
+    same ≡ v → xs ≡ same.items →
+    length v.items ≡ n * w → p < n → a ≡ p * w → k ≡ u → u ≤ w → length new ≡ u →
+    (with_items same (put_mid a k xs new)).items ≡ put_mid (p * w) u v.items new
+written_again w u n p a k v same xs new e was =
+    written_part w u n p a k v (with_items same (put_mid a k xs new)) xs new
+    (ap (λ (x : Vec CellValue Global). with_items x (put_mid a k xs new)) e)
+    (was ∙ ap (λ (x : Vec CellValue Global). x.items) e)
 
 -- ---- Rows
 
@@ -158,6 +168,18 @@ rows_in-flagged w r cells flag lines h =
     map-set (row_in w cells) lines r (record (line_at lines r) { wrapped = flag })
     ∙ ap (λ (row : RowValue). set (map (row_in w cells) lines) r (record row { wrapped = flag }))
     (sym (get_or-map (row_in w cells) lines r no_line (row_in w cells no_line) h))
+
+-- Setting the flag of an entry that was just set sets both parts of the former entry.
+pub entered_again : (r used : ℕ) (was is : Bool) (lines now last : List Line) → r < length lines →
+    now ≡ set lines r (record (line_at lines r) { used = used; wrapped = was }) →
+    last ≡ set now r (record (line_at now r) { wrapped = is }) →
+    last ≡ set lines r (record (line_at lines r) { used = used; wrapped = is })
+entered_again r used was is lines now last h e f =
+    let line = record (line_at lines r) { used = used; wrapped = was } in
+    let found : line_at now r ≡ line = ap (λ (xs : List Line). line_at xs r) e ∙ get_or-set_same lines r line no_line h in
+    f
+    ∙ ((λ z. set (e z) r (record (found z) { wrapped = is }))
+    ∙ set-set lines r line (record line { wrapped = is }))
 
 -- ---- Tables
 

@@ -146,6 +146,22 @@ impl Flat {
         self.set_entry(row, used, wrapped);
     }
 
+    /// Changes the wrapped flag of a row from `was_wrapped` to `is_wrapped`. The cells are
+    /// unchanged.
+    #[inline(always)]
+    pub fn rewrap(&mut self, row: usize, was_wrapped: bool, is_wrapped: bool)
+        requires inside { row < length self.old.lines.items }
+        requires was { (line_at self.old.lines.items row).wrapped ≡ was_wrapped }
+        ensures cells { self.new.cells ≡ self.old.cells }
+        ensures columns { self.new.columns ≡ self.old.columns }
+        ensures lines { self.new.lines.items
+            ≡ slice_set self.old.lines.items row (record (line_at self.old.lines.items row) { wrapped = is_wrapped }) }
+    {
+        if is_wrapped != was_wrapped {
+            self.wrap(row, is_wrapped);
+        }
+    }
+
     /// Rotates rows `from..to` upward by `count`, together with their wrapped flags. Only the row
     /// table changes; the cells are not moved.
     #[tactic(auto, using(crate::proofs::Flats::rows_counted))]
@@ -181,8 +197,8 @@ impl Flat {
     {
         let (start, _end) = self.part(row);
         let used = used_columns(self.lines.get(row).used, self.columns.shown);
-        cells::clear(&mut self.cells[start..start + used], Attrs::new());
         self.set_entry(row, 0, false);
+        clear_used(&mut self.cells[start..start + used]);
     }
 
     /// Turns all cells of a row into blanks with attributes `attrs`, and clears the row's wrapped
@@ -206,8 +222,8 @@ impl Flat {
             (record (line_at self.old.lines.items row) { used = 255; wrapped = false }) }
     {
         let (start, end) = self.part(row);
-        cells::clear(&mut self.cells[start..end], attrs);
         self.set_entry(row, WHOLE_ROW, false);
+        cells::clear(&mut self.cells[start..end], attrs);
     }
 
     /// Marks the first `used` groups of eight columns of a row as used ([`WHOLE_ROW`] marks all
@@ -251,6 +267,16 @@ impl Flat {
             });
         }
         Ok(lines)
+    }
+}
+
+/// Sets the used cells of a row, of which there may be none, to default blanks.
+#[inline(always)]
+fn clear_used(cells: &mut [Cell])
+    ensures { cells.new ≡ blanks default_attrs (length cells.old) }
+{
+    if !cells.is_empty() {
+        cells::clear(cells, Attrs::new());
     }
 }
 

@@ -172,12 +172,13 @@ impl PageRows {
             × (self.new ≡ with_row_cells row cells self.old) }
     {
         let row = usize::from(row);
-        let is_wrapped = self.flat.wrapped(row);
+        let was_wrapped = self.flat.wrapped(row);
         let (start, end) = self.flat.part(row);
+        self.flat.set_entry(row, WHOLE_ROW, was_wrapped);
         let cells = &mut self.flat.cells[start..end];
         let edited = edit(cells);
-        let is_wrapped = cells::is_still_wrapped(cells, is_wrapped);
-        self.flat.set_entry(row, WHOLE_ROW, is_wrapped);
+        let is_wrapped = cells::is_still_wrapped(cells, was_wrapped);
+        self.flat.rewrap(row, was_wrapped, is_wrapped);
         edited
     }
 

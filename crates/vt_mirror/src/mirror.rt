@@ -326,7 +326,7 @@ impl Mirror {
         // Only for the proof: the contract of `size` says that every screen is valid.
         screen.size();
         let is_current = self.viewers.is_current(viewer);
-        let Some(noted) = self.viewers.noted(viewer) else {
+        let Some((noted, kept)) = self.viewers.noted(viewer, options) else {
             return self.full(options.portable);
         };
         if options.scroll && !noted.is_steady() {
@@ -336,8 +336,8 @@ impl Mirror {
             let text = String::new(self.alloc);
             return Ok(Update::Diff(text));
         }
-        if let Some(kept) = self.viewers.kept_diff(viewer, options) {
-            let copy = String::from_str(self.alloc, kept)?;
+        if let Some(text) = kept {
+            let copy = String::from_str(self.alloc, text)?;
             return Ok(Update::Diff(copy));
         }
         let text = diff_between(screen, noted.screen(), options)?;

@@ -126,14 +126,21 @@ impl Viewers {
         self.numbers.contains(&viewer)
     }
 
-    /// Returns the copy of the screen recorded for a viewer, or `None` if no
-    /// screen is recorded.
-    pub(crate) fn noted(&self, viewer: u64) -> Option<&SharedCopy>
-        ensures some { IfSome result (λ copy. note_of self.now.viewers viewer ≡ Some copy.now) }
+    /// Returns the copy of the screen recorded for a viewer, and the stored text of the diff with the
+    /// given options from that screen to the current one, or `None` in its place if that text is
+    /// not stored. Returns `None` if no screen is recorded.
+    pub(crate) fn noted(
+        &self,
+        viewer: u64,
+        options: DiffOptions,
+    ) -> Option<(&SharedCopy, Option<&str>)>
+        ensures some { IfSome result (λ found. note_of self.now.viewers viewer ≡ Some found.0.now) }
+        ensures kept { IfSome result (λ found. IfSome found.1 (λ text. (diff : KeptDiff) × HoldsDiff self.now.texts diff
+            × (note_of self.now.viewers viewer ≡ Some diff.from.screen) × IsKeptAs options text.now diff)) }
         ensures none { IfNone result (note_of self.now.viewers viewer ≡ None) }
     {
         match self.notes.get(&viewer) {
-            Some(note) => Some(&note.screen),
+            Some(note) => Some((&note.screen, self.texts.diff(note, options))),
             None => None,
         }
     }
@@ -152,17 +159,6 @@ impl Viewers {
             Some(note) => note.is_of_version(current),
             None => false,
         }
-    }
-
-    /// Returns the stored text of the diff with the given options from the screen recorded for a
-    /// viewer to the current screen, or `None` if that text is not stored.
-    pub(crate) fn kept_diff(&self, viewer: u64, options: DiffOptions) -> Option<&str>
-        ensures { IfSome result (λ text. (diff : KeptDiff) × HoldsDiff self.now.texts diff
-            × (note_of self.now.viewers viewer ≡ Some diff.from.screen) × IsKeptAs options text.now diff) }
-    {
-        let note = self.notes.get(&viewer)?;
-        let text = self.texts.diff(note, options)?;
-        Some(text)
     }
 
     /// Stores `text`, the diff with the given options from the screen recorded for a viewer to the

@@ -109,8 +109,27 @@ impl Lines {
         }
         if count == 1 && to - from == self.len() {
             self.rotate_by_one();
+        } else if count + 1 == self.len() {
+            self.rotate_down();
         } else {
             self.rotate_many(from, to, count);
+        }
+    }
+
+    /// Rotates all entries downward by one, that is, upward by the number of the other entries.
+    #[inline(always)]
+    fn rotate_down(&mut self)
+        requires { 0 < length self.old.items }
+        ensures len { length self.new.items ≡ length self.old.items }
+        ensures lines { (k : ℕ) → line_at self.new.items k
+            ≡ line_at self.old.items (rotation_source 0 (length self.old.items) (length self.old.items - 1) k) }
+    {
+        if self.start > 0 {
+            move_before(&mut self.entries, self.start, 1);
+            self.start -= 1;
+        } else {
+            let len = self.len();
+            self.rotate_many(0, len, len - 1);
         }
     }
 
@@ -261,6 +280,7 @@ fn move_forward(entries: &mut Vec<Line>, from: usize, to: usize)
 }
 
 /// Moves the last `count` entries before index `start`, overwriting what is there.
+#[inline(always)]
 fn move_before(entries: &mut Vec<Line>, start: usize, count: usize)
     requires room { count ≤ start }
     requires inside { start + count ≤ length entries.old.items }

@@ -1,10 +1,10 @@
-use Rattle.std.proofs.Common.{◌≡◌, ◌-◌, ◌<◌, List, length, take, drop, ap, subst, sym, ◌∙◌, arith}
+use Rattle.std.proofs.Common.{◌≡◌, ◌-◌, ◌<◌, List, Vec, Global, length, take, drop, ap, subst, sym, ◌∙◌, arith}
 use Rattle.std.proofs.lemmas.List.{length-take, length-drop, length-replicate}
 use Rattle.vt_cells.specs.Cell.{CellValue, blank}
 use Rattle.vt_rows.specs.Cells.{blanks}
 use Rattle.vt_grid.specs.Flat.{IsBlankFrom, line_at, cells_at}
 use Rattle.vt_grid.proofs.Bounds.{blank_after, used_inside}
-use Rattle.vt_grid.proofs.Flats.{cells_at-put_part, cells_at-put_start, rows_counted, written_part}
+use Rattle.vt_grid.proofs.Flats.{cells_at-put_part, cells_at-put_start, rows_counted, written_again}
 use Rattle.vt_grid.proofs.flat.Flat.fill.Goals as goal
 
 pub returns-clause-own : goal.returns-clause-own
@@ -24,13 +24,14 @@ returns-clause-own c =
       length-take k (drop s xs),
       length-drop s xs,
       ap length c.deref_mut.ensures.value,
+      ap (λ (v : Vec CellValue Global). length v.items) c.set_entry.ensures.cells,
       c.part-start.ensures.end,
       c.part-start.ensures.inside,
     ) in
     let new : c.clear.new.cells ≡ blanks c.args.attrs u =
     c.clear.ensures ∙ ap (blanks c.args.attrs) count in
     let size : length c.clear.new.cells ≡ u = ap length new ∙ length-replicate u (blank c.args.attrs) in
-    let cells = written_part w u n p s k flat.cells c.set_entry.new.self.cells xs c.clear.new.cells
+    let cells = written_again w u n p s k flat.cells c.set_entry.new.self.cells xs c.clear.new.cells
     c.set_entry.ensures.cells c.deref_mut.ensures.value c.requires.flat.table.filled h c.part-start.ensures.start
     (omega (arith, c.part-start.ensures.end)) c.requires.flat.fits size in
     ap (λ (items : List CellValue). take u (cells_at w items p)) cells
@@ -58,10 +59,11 @@ returns-clause-after c =
       length-take k (drop s xs),
       length-drop s xs,
       ap length c.deref_mut.ensures.value,
+      ap (λ (v : Vec CellValue Global). length v.items) c.set_entry.ensures.cells,
       c.part-start.ensures.end,
       c.part-start.ensures.inside,
     ) in
-    let cells = written_part w u n p s k flat.cells c.set_entry.new.self.cells xs c.clear.new.cells
+    let cells = written_again w u n p s k flat.cells c.set_entry.new.self.cells xs c.clear.new.cells
     c.set_entry.ensures.cells c.deref_mut.ensures.value c.requires.flat.table.filled h c.part-start.ensures.start
     (omega (arith, c.part-start.ensures.end)) c.requires.flat.fits size in
     subst (λ (items : List CellValue). IsBlankFrom u (cells_at w items p)) (sym cells)
@@ -88,10 +90,11 @@ returns-clause-others c =
       length-take k (drop s xs),
       length-drop s xs,
       ap length c.deref_mut.ensures.value,
+      ap (λ (v : Vec CellValue Global). length v.items) c.set_entry.ensures.cells,
       c.part-start.ensures.end,
       c.part-start.ensures.inside,
     ) in
-    let cells = written_part w u n p s k flat.cells c.set_entry.new.self.cells xs new c.set_entry.ensures.cells
+    let cells = written_again w u n p s k flat.cells c.set_entry.new.self.cells xs new c.set_entry.ensures.cells
     c.deref_mut.ensures.value c.requires.flat.table.filled h c.part-start.ensures.start
     (omega (arith, c.part-start.ensures.end)) c.requires.flat.fits size in
     λ place q other.
