@@ -38,10 +38,10 @@ pub fn process<CB: Callbacks>(
         bytes.now (parser_value scanner.new screen.new callbacks.new) }
     ensures memory { OnlyOutOfMemory result }
 {
-    let mut at = 0;
-    while at < bytes.len() {
-        match process_some(scanner, screen, callbacks, &bytes[at..]) {
-            Ok(count) => at += count,
+    let mut rest = bytes;
+    while !rest.is_empty() {
+        match process_some(scanner, screen, callbacks, rest) {
+            Ok(count) => rest = &rest[count..],
             Err(_) => return Err(Error::OutOfMemory),
         }
     }
