@@ -28,18 +28,6 @@ SECONDS = 60
 # Foregrounds and backgrounds with which a terminal draws everything anew, one after the other. The pixel in the window's
 # corner, which belongs to no cell, tells which of them it has drawn; if the screen is reversed, it has the foreground.
 COLORS = ((205, 205, 205), (1, 1, 1)), ((204, 204, 204), (0, 0, 0))
-# The fonts of st, none of whose glyphs is larger than its cells. The last one is for wide glyphs. There is no italic font,
-# so that italic text has a color of its own: st takes glyphs that a font lacks from those that it has used for others, and
-# the italic one lacks box drawing.
-ST_FONTS = "8x13", "8x13B", "12x13ja"
-X11_FONTS = "/usr/share/fonts/X11/misc"
-FONTCONFIG = "<?xml version='1.0'?><fontconfig><dir>{0}/fonts</dir><cachedir>{0}/cache</cachedir></fontconfig>"
-# Room for 12 windows of up to 50 rows and 160 columns, four in a row.
-WIDTH, HEIGHT, PER_ROW = 6000, 3000, 4
-SECONDS = 60
-# Background colors with which a terminal draws everything anew, one after the other. The pixel in the window's corner,
-# which belongs to no cell, tells which of them it has drawn.
-PAPERS = (1, 1, 1), (0, 0, 0)
 # Hides the cursor, whose color and outline depend on what is stored for blanks, and asks for its position.
 QUERY = b"\x1b[?25l\x1b[6n"
 

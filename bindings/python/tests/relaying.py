@@ -1,7 +1,6 @@
 """A Redis server and relays of vt100.share within the tests."""
 
 import asyncio
-import os
 import shutil
 import signal
 import socket
