@@ -234,6 +234,19 @@ class Sent(unittest.TestCase):
 
         asyncio.run(check())
 
+    def test_who_joins_after_the_end_of_the_program_gets_all_rows(self):
+        async def check():
+            async with Shared(["seq", "3000"], scrollback=5000) as shared:
+                # The server waits for this viewer.
+                (await shared.viewer()).acknowledges = False
+                while not shared.share.is_final:
+                    await asyncio.sleep(0.01)
+                viewer = await (await shared.viewer()).until_end()
+                rows = viewer.rows.parser.history.rows()
+                self.assertEqual(rows, [str(number) for number in range(1, 2978)])
+
+        asyncio.run(check())
+
     def test_there_are_no_rows_unless_they_are_requested(self):
         async def check():
             async with Shared(["seq", "1000"]) as shared:

@@ -111,8 +111,9 @@ class Audience:
         self._writer_count += viewer.may_write
         self._count()
         viewer.send(messages.may_write(viewer.may_write))
-        self.offer(viewer)
+        # Added before the offer, so that the end waits for the rows if the program has ended.
         self._rows.add(viewer)
+        self.offer(viewer)
 
     def remove(self, viewer: Viewer) -> None:
         if viewer in self._viewers:
