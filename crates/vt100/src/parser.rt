@@ -24,7 +24,6 @@ use vt_screen::{Callbacks, Screen};
 /// An in-memory terminal emulator. It parses the bytes that a program writes,
 /// maintains the screen that a user would see, and passes everything that is
 /// not displayed, such as titles and bells, to its callbacks.
-#[derive(Drop)]
 pub struct Parser<CB: Callbacks = ()> {
     scanner: Scanner,
     screen: Screen,
@@ -39,6 +38,18 @@ impl<CB: Callbacks> Model for Parser<CB> {
 
     ghost view = { λ p.
         record { scanner = p.scanner; screen = p.screen; callbacks = p.callbacks; is_failed = p.is_failed } };
+}
+
+// `Drop` is implemented by hand so that dropping is a single call in callers' proofs, as for `Screen`.
+impl<CB: Callbacks + Drop> Drop for Parser<CB> {
+    fn drop(self) {
+        let Parser {
+            scanner: _,
+            screen: _,
+            callbacks: _,
+            is_failed: _,
+        } = self;
+    }
 }
 
 impl Parser {
