@@ -9,10 +9,11 @@ import json
 import os
 import struct
 import sys
-import zlib
 
 from vt100.share import _cohort, _loop, _messages, _server, _share, _site, _viewers
 from vt100.share._program import Program
+
+from viewers import key_of
 
 HERE = os.path.dirname(os.path.abspath(__file__))
 
@@ -33,7 +34,7 @@ class Log:
         return self._stamp[1]
 
     def note(self, message, oldest):
-        self._file.write(struct.pack("<QQ", len(message) << 32 | zlib.crc32(message), oldest))
+        self._file.write(struct.pack("<QQ", key_of(message), oldest))
         return message
 
 

@@ -6,6 +6,7 @@ import struct
 import subprocess
 import sys
 import typing
+import zlib
 
 HERE = os.path.dirname(os.path.abspath(__file__))
 PACKAGE = os.path.join(HERE, "..", "..", "bindings", "python")
@@ -37,9 +38,14 @@ def usage(process):
     return ticks / os.sysconf("SC_CLK_TCK"), int(fields[21]) * resource.getpagesize() / 1e6
 
 
-def percentile(ages, part):
-    """Returns the age that the given part of sorted ages does not exceed, or 0 if there are none."""
+def quantile(ages, part):
+    """Returns the age below which a part of sorted ages lies, such as 0.5 for the median, or 0 if there are none."""
     return ages[int(len(ages) * part)] if ages else 0.0
+
+
+def key_of(message):
+    """Returns the number by which load.c tells messages apart."""
+    return len(message) << 32 | zlib.crc32(message)
 
 
 class Viewer(typing.NamedTuple):
@@ -52,7 +58,7 @@ class Viewer(typing.NamedTuple):
     read: bytes
 
 
-class Viewers:
+class Results:
     """What load.c has written into a directory."""
 
     def __init__(self, folder):
@@ -73,8 +79,9 @@ class Viewers:
             return file.read()
 
     def ages(self, times, start, end, is_read=False):
-        """Returns the sorted ages of messages on arrival at the sockets of some viewers, or when they were read, in ms.
-        The age of a message counts from its time in `times`, by its key. The first message of a viewer has none."""
+        """Returns the sorted ages of messages on arrival at the sockets of the viewers from `start` to before `end`, or
+        when these have read them, in ms. The age of a message counts from its time in `times`, which is by keys. The
+        first message of a viewer has none."""
         return sorted(
             ((read if is_read else arrived) - times[key]) / 1e6
             for key, arrived, read, viewer, is_first in ARRIVAL.iter_unpack(self.data("arrivals"))

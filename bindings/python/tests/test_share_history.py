@@ -9,6 +9,7 @@ import shutil
 import subprocess
 import tempfile
 import unittest
+from unittest import mock
 
 import vt100
 from sharing import (
@@ -237,7 +238,7 @@ class Sent(unittest.TestCase):
     def test_who_joins_after_the_end_of_the_program_gets_all_rows(self):
         async def check():
             async with Shared(["seq", "3000"], scrollback=5000) as shared:
-                # The server waits for this viewer.
+                # The server waits for this viewer, which never gets all rows.
                 (await shared.viewer()).acknowledges = False
                 while not shared.share.is_final:
                     await asyncio.sleep(0.01)
@@ -245,7 +246,8 @@ class Sent(unittest.TestCase):
                 rows = viewer.rows.parser.history.rows()
                 self.assertEqual(rows, [str(number) for number in range(1, 2978)])
 
-        asyncio.run(check())
+        with mock.patch("vt100.share._share._FAREWELL", 15.0):
+            asyncio.run(check())
 
     def test_there_are_no_rows_unless_they_are_requested(self):
         async def check():
