@@ -262,7 +262,7 @@ fn ris_takes_back_each_mode(rt: HostRuntime) -> Result<(), Fail> {
     for (text, _) in &MODES {
         let parser = read_keeping(rt.alloc(), (2, 4), 0, &[text.as_bytes(), b"\x1bc"])?;
         let found = shown(rt.alloc(), parser.screen())?;
-        assert_eq!(rt; found.as_str(), "@0,0\n", "after {text:?}");
+        assert!(rt; found.as_str() == "@0,0\n", "after {text:?}");
     }
     Ok(())
 }

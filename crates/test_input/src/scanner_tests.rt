@@ -117,7 +117,7 @@ const EVENTS: [(&[u8], &str); 26] = [
 fn check_cuts(rt: &impl Abort, alloc: Global, bytes: &[u8], events: &str) -> Result<(), Fail> {
     for (cut, _) in bytes.iter().enumerate() {
         let text = shown(alloc, &bytes[..cut], &bytes[cut..])?;
-        assert_eq!(rt; text.as_str(), events, "cut at {cut}");
+        assert!(rt; text.as_str() == events, "cut at {cut}");
     }
     Ok(())
 }
@@ -153,8 +153,8 @@ fn after_sgr(rt: &impl Abort, alloc: Global, bytes: &[u8]) -> Result<Scanner, Fa
 /// Aborts unless the scanner holds 32 groups, the last of which consists of the number `last`.
 fn expect_groups(rt: &impl Abort, scanner: &Scanner, last: u16) {
     let groups = scanner.parameters().groups();
-    assert_eq!(rt; groups.as_slice().len(), 32);
-    assert_eq!(rt; groups.as_slice().last(), Some(&&[last][..]));
+    assert!(rt; groups.as_slice().len() == 32);
+    assert!(rt; groups.as_slice().last() == Some(&&[last][..]));
 }
 
 #[test]
@@ -174,10 +174,7 @@ fn keeps_what_fits(rt: HostRuntime) -> Result<(), Fail> {
         b"\x1B]a;b;c;d;e;f;g;h;i;j;k;l;m;n;o;p;q",
         b"\x07",
     )?;
-    assert_eq!(rt;
-        text.as_str(),
-        "osc <a><b><c><d><e><f><g><h><i><j><k><l><m><n><o><p>,"
-    );
+    assert!(rt; text.as_str() == "osc <a><b><c><d><e><f><g><h><i><j><k><l><m><n><o><p>,");
     Ok(())
 }
 
@@ -185,10 +182,10 @@ fn keeps_what_fits(rt: HostRuntime) -> Result<(), Fail> {
 fn lends_numbers(rt: HostRuntime) -> Result<(), Fail> {
     let scanner = after_sgr(&rt, rt.alloc(), b"\x1B[7;8:9;m")?;
     let parameters = scanner.parameters();
-    assert_eq!(rt; parameters.group_count(), 3);
-    assert_eq!(rt; parameters.group(1), &[8, 9][..]);
+    assert!(rt; parameters.group_count() == 3);
+    assert!(rt; parameters.group(1) == &[8, 9][..]);
     for (group, number) in [(0, 7), (1, 8), (2, 0), (3, 0)] {
-        assert_eq!(rt; parameters.number(group), number, "group {group}");
+        assert!(rt; parameters.number(group) == number, "group {group}");
     }
     Ok(())
 }
@@ -197,13 +194,13 @@ fn lends_numbers(rt: HostRuntime) -> Result<(), Fail> {
 #[test]
 fn reads_introducers(rt: HostRuntime) {
     let mut scanner = Scanner::new(rt.alloc());
-    assert_eq!(rt; scanner.take_introducer(b"\x1B[1;22mA"), 6);
+    assert!(rt; scanner.take_introducer(b"\x1B[1;22mA") == 6);
     assert!(rt; !scanner.take_final_byte(b' '));
     assert!(rt; scanner.take_final_byte(b'm'));
-    assert_eq!(rt; scanner.parameters().number(1), 22);
-    assert_eq!(rt; scanner.take_introducer(b"\x1B(B"), 2);
+    assert!(rt; scanner.parameters().number(1) == 22);
+    assert!(rt; scanner.take_introducer(b"\x1B(B") == 2);
     assert!(rt; !scanner.take_escape_byte(b'(') && scanner.take_escape_byte(b'B'));
-    assert_eq!(rt; scanner.intermediates(), &b"("[..]);
+    assert!(rt; scanner.intermediates() == &b"("[..]);
     assert!(rt; scanner.is_control(b'\r') && !scanner.is_control(0x1B));
 }
 
@@ -213,13 +210,13 @@ fn reads_strings(rt: HostRuntime) -> Result<(), Fail> {
     let mut scanner = Scanner::new(rt.alloc());
     let mut text = String::new(rt.alloc());
     feed_all(&mut text, &mut scanner, b"\x1BP")?;
-    assert_eq!(rt; scanner.skipped_len(b"a\x9C\r;\x1B\\"), 4);
+    assert!(rt; scanner.skipped_len(b"a\x9C\r;\x1B\\") == 4);
     feed_all(&mut text, &mut scanner, b"\x1B\\\x1B]")?;
-    assert_eq!(rt; scanner.take_command_text(b"2;\xC3\xA4\x07")?, 4);
-    assert_eq!(rt; scanner.pending_len(), 4);
+    assert!(rt; scanner.take_command_text(b"2;\xC3\xA4\x07")? == 4);
+    assert!(rt; scanner.pending_len() == 4);
     feed_all(&mut text, &mut scanner, b"\x07")?;
-    assert_eq!(rt; scanner.pending_len(), 0);
-    assert_eq!(rt; text.as_str(), "esc \\,osc <2><\u{C3}\u{A4}>,");
+    assert!(rt; scanner.pending_len() == 0);
+    assert!(rt; text.as_str() == "esc \\,osc <2><\u{C3}\u{A4}>,");
     Ok(())
 }
 
@@ -227,12 +224,12 @@ fn reads_strings(rt: HostRuntime) -> Result<(), Fail> {
 #[test]
 fn ends_commands_at_bel(rt: HostRuntime) -> Result<(), Fail> {
     let mut scanner = Scanner::new(rt.alloc());
-    assert_eq!(rt; scanner.take_introducer(b"\x1B\x1B\x1B]2;x"), 4);
-    assert_eq!(rt; scanner.take_command_text(b"2;x\x07")?, 3);
+    assert!(rt; scanner.take_introducer(b"\x1B\x1B\x1B]2;x") == 4);
+    assert!(rt; scanner.take_command_text(b"2;x\x07")? == 3);
     assert!(rt; !scanner.take_command_byte(b'\n') && scanner.take_command_byte(0x07));
     let parts = scanner.parts();
-    assert_eq!(rt; parts.as_slice().len(), 2);
-    assert_eq!(rt; parts.as_slice()[1], &b"x"[..]);
+    assert!(rt; parts.as_slice().len() == 2);
+    assert!(rt; parts.as_slice()[1] == &b"x"[..]);
     Ok(())
 }
 
@@ -240,24 +237,23 @@ fn ends_commands_at_bel(rt: HostRuntime) -> Result<(), Fail> {
 #[test]
 fn ends_commands_at_esc(rt: HostRuntime) {
     let mut scanner = Scanner::new(rt.alloc());
-    assert_eq!(rt; scanner.take_introducer(b"\x1B]"), 2);
+    assert!(rt; scanner.take_introducer(b"\x1B]") == 2);
     assert!(rt; scanner.take_command_byte(0x1B) && scanner.take_escape_byte(b'\\'));
-    assert_eq!(rt; scanner.take_introducer(b"\x1B[?25h"), 5);
-    assert_eq!(rt; scanner.intermediates(), &b"?"[..]);
+    assert!(rt; scanner.take_introducer(b"\x1B[?25h") == 5);
+    assert!(rt; scanner.intermediates() == &b"?"[..]);
 }
 
 /// Checks that the end of a long string is found, and that EM (0x19) does not end such a string.
 #[test]
 fn finds_ends_of_long_strings(rt: HostRuntime) -> Result<(), Fail> {
     let mut scanner = Scanner::new(rt.alloc());
-    assert_eq!(rt; scanner.take_introducer(b"\x1B_"), 2);
-    assert_eq!(rt;
-        scanner.skipped_len(b"0123456789abcdef\x19123456789\x19bcdef0123\x1A0123456789abcdef"),
-        36
+    assert!(rt; scanner.take_introducer(b"\x1B_") == 2);
+    assert!(rt;
+        scanner.skipped_len(b"0123456789abcdef\x19123456789\x19bcdef0123\x1A0123456789abcdef") == 36
     );
-    assert_eq!(rt; scanner.skipped_len(b"0123456789abcdef0\x18"), 17);
+    assert!(rt; scanner.skipped_len(b"0123456789abcdef0\x18") == 17);
     assert!(rt; scanner.feed(0x18)?.second.is_none());
-    assert_eq!(rt; scanner.take_introducer(b"\x1B]"), 2);
+    assert!(rt; scanner.take_introducer(b"\x1B]") == 2);
     Ok(())
 }
 
@@ -265,12 +261,12 @@ fn finds_ends_of_long_strings(rt: HostRuntime) -> Result<(), Fail> {
 #[test]
 fn divides_long_commands(rt: HostRuntime) -> Result<(), Fail> {
     let mut scanner = Scanner::new(rt.alloc());
-    assert_eq!(rt; scanner.take_introducer(b"\x1B]"), 2);
+    assert!(rt; scanner.take_introducer(b"\x1B]") == 2);
     let text = b"0123456789;bcdef0123456789abcde;0123\x07";
-    assert_eq!(rt; scanner.take_command_text(text)?, 36);
+    assert!(rt; scanner.take_command_text(text)? == 36);
     let parts = scanner.parts();
-    assert_eq!(rt; parts.as_slice().len(), 3);
-    assert_eq!(rt; parts.as_slice()[1], &b"bcdef0123456789abcde"[..]);
-    assert_eq!(rt; parts.as_slice()[2], &b"0123"[..]);
+    assert!(rt; parts.as_slice().len() == 3);
+    assert!(rt; parts.as_slice()[1] == &b"bcdef0123456789abcde"[..]);
+    assert!(rt; parts.as_slice()[2] == &b"0123"[..]);
     Ok(())
 }

@@ -58,12 +58,12 @@ fn pieces_stand_outside_sgr(rt: HostRuntime) {
         let mut pieces = basic_formatted_to_plain_indexed(capture);
         let mut plain = basic_formatted_to_plain(capture);
         for (index, text) in *want {
-            assert_eq!(rt; pieces.next(), Some((*index, *text)));
-            assert_eq!(rt; plain.next(), Some(*text));
+            assert!(rt; pieces.next() == Some((*index, *text)));
+            assert!(rt; plain.next() == Some(*text));
         }
-        assert_eq!(rt; pieces.next(), None);
-        assert_eq!(rt; plain.next(), None);
-        assert_eq!(rt; pieces.next(), None);
+        assert!(rt; pieces.next().is_none());
+        assert!(rt; plain.next().is_none());
+        assert!(rt; pieces.next().is_none());
     }
 }
 
@@ -72,10 +72,10 @@ fn rows_end_at_line_ends_and_at_the_width(rt: HostRuntime) {
     for (capture, width, want) in &ROWS {
         let mut rows = basic_formatted_rows(capture, *width);
         for row in *want {
-            assert_eq!(rt; rows.next(), Some(*row));
+            assert!(rt; rows.next() == Some(*row));
         }
-        assert_eq!(rt; rows.next(), None);
-        assert_eq!(rt; rows.next(), None);
+        assert!(rt; rows.next().is_none());
+        assert!(rt; rows.next().is_none());
     }
 }
 
@@ -182,10 +182,7 @@ const WRITTEN: [(usize, &[(usize, char, Parts)], &str); 7] = [
 fn writes_cells_in_their_attributes(rt: HostRuntime) -> Result<(), Fail> {
     for (columns, puts, want) in &WRITTEN {
         let cells = cells_of(rt.alloc(), *columns, puts)?;
-        assert_eq!(rt;
-            text_of(rt.alloc(), &[row_of(&cells, false)])?.as_str(),
-            *want
-        );
+        assert!(rt; text_of(rt.alloc(), &[row_of(&cells, false)])?.as_str() == *want);
     }
     Ok(())
 }
@@ -195,9 +192,9 @@ fn ends_a_row_before_the_next(rt: HostRuntime) -> Result<(), Fail> {
     let first = cells_of(rt.alloc(), 2, &[(0, 'a', RED), (1, 'b', RED)])?;
     let second = cells_of(rt.alloc(), 2, &[(0, 'c', RED), (1, 'd', PLAIN)])?;
     let ended = text_of(rt.alloc(), &[row_of(&first, false), row_of(&second, false)])?;
-    assert_eq!(rt; ended.as_str(), "\x1b[31mab\nc\x1b[md");
+    assert!(rt; ended.as_str() == "\x1b[31mab\nc\x1b[md");
     let joined = text_of(rt.alloc(), &[row_of(&first, true), row_of(&second, false)])?;
-    assert_eq!(rt; joined.as_str(), "\x1b[31mabc\x1b[md");
+    assert!(rt; joined.as_str() == "\x1b[31mabc\x1b[md");
     Ok(())
 }
 
@@ -209,7 +206,7 @@ fn writes_blank_rows_as_line_ends(rt: HostRuntime) -> Result<(), Fail> {
     for _row in 0..3 {
         row_of(&cells, false).write_formatted_basic(&mut text, &mut state)?;
     }
-    assert_eq!(rt; text.as_str(), "\n\n");
+    assert!(rt; text.as_str() == "\n\n");
     Ok(())
 }
 
@@ -282,11 +279,11 @@ fn stays_where_a_row_is_refused(rt: HostRuntime) -> Result<(), Fail> {
     for (pieces, taken) in [(0, false), (1, false), (100, true)] {
         let mut state = written.clone()?;
         let found = is_taken(&rt, rt.alloc(), &row, &mut state, pieces);
-        assert_eq!(rt; found, taken);
+        assert!(rt; found == taken);
         if !taken {
             let mut again = String::new(rt.alloc());
             row.write_formatted_basic(&mut again, &mut state)?;
-            assert_eq!(rt; again.as_str(), WHOLE);
+            assert!(rt; again.as_str() == WHOLE);
         }
     }
     Ok(())

@@ -142,7 +142,7 @@ fn reads_captures(rt: HostRuntime) -> Result<(), Fail> {
         for piece in basic_formatted_to_plain(capture.as_str()) {
             joined.push_str(piece)?;
         }
-        assert_eq!(rt; joined.as_str(), *plain);
+        assert!(rt; joined.as_str() == *plain);
     }
     Ok(())
 }
@@ -150,10 +150,10 @@ fn reads_captures(rt: HostRuntime) -> Result<(), Fail> {
 fn expect_rows<A: Abort>(rt: &A, capture: &str, width: u16, wanted: &[&str]) {
     let mut rows = basic_formatted_rows(capture, width);
     for row in wanted {
-        assert_eq!(rt; rows.next(), Some(*row));
+        assert!(rt; rows.next() == Some(*row));
     }
-    assert_eq!(rt; rows.next(), None);
-    assert_eq!(rt; rows.next(), None);
+    assert!(rt; rows.next().is_none());
+    assert!(rt; rows.next().is_none());
 }
 
 /// A sink that accepts whole writes up to a total number of bytes, and fails for a write that would
@@ -271,7 +271,7 @@ fn goes_on_after_the_last_whole_row_of_what_fits(rt: HostRuntime) -> Result<(), 
         let mut state = BasicFormattedCaptureState::new();
         let range = BasicFormattedCaptureRange::Full(&mut state);
         let bytes = fitting(rt.alloc(), parser.screen(), range, *left)?;
-        assert_eq!(rt; bytes.as_slice(), taken.as_bytes());
+        assert!(rt; bytes.as_slice() == taken.as_bytes());
         expect_text(all_rows(rt.alloc(), parser.screen(), &mut state)?, rest)?;
     }
     Ok(())

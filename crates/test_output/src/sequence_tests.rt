@@ -162,12 +162,12 @@ fn buffered(rt: HostRuntime) -> Result<(), Fail> {
     buffer.make_room(&mut text, SHORT_ROOM)?;
     ClearRowForward.push(&mut buffer);
     assert!(rt; text.is_empty());
-    assert_eq!(rt; buffer.room(), 239);
+    assert!(rt; buffer.room() == 239);
     buffer.make_room(&mut text, SHORT_ROOM)?;
     buffer.push("\u{2500}");
-    assert_eq!(rt; buffer.room(), 236);
+    assert!(rt; buffer.room() == 236);
     buffer.make_room(&mut text, 237)?;
-    assert_eq!(rt; buffer.room(), 256);
+    assert!(rt; buffer.room() == 256);
     buffer.flush(&mut text)?;
     if text.as_str() != "\x1b[3;5H\x1b[X\x1b[12X\x1b[K\u{2500}" {
         return Err(Fail::new(format_args!("{text:?}")));

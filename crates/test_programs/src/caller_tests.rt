@@ -106,9 +106,8 @@ fn takes_no_update_without_a_row_or_a_column(rt: HostRuntime) -> Result<(), Fail
     let mut terminal = terminal(rt.alloc(), (1, 9))?;
     for (rows, cols) in [(0, 4), (2, 0)] {
         let answer = mirroring::take_update(&mut terminal, &full(rt.alloc(), rows, cols)?);
-        assert_eq!(rt;
-            answer,
-            Err(Error::Failed),
+        assert!(rt;
+            answer == Err(Error::Failed),
             "{rows} rows and {cols} columns"
         );
     }
@@ -177,12 +176,11 @@ fn tells_what_stands_where(rt: HostRuntime) -> Result<(), Fail> {
     let screen = screen_after(rt.alloc(), "a\u{4e2d}")?;
     for (row, column, text, wanted) in &CELLS {
         let found = screen_test::cell_shows(&screen, *row, *column, text);
-        assert_eq!(rt; found, *wanted, "{text:?} at {row}, {column}");
+        assert!(rt; found == *wanted, "{text:?} at {row}, {column}");
     }
     for (row, text, wanted) in &ROWS {
-        assert_eq!(rt;
-            screen_test::row_shows(&screen, *row, text)?,
-            *wanted,
+        assert!(rt;
+            screen_test::row_shows(&screen, *row, text)? == *wanted,
             "{text:?} in row {row}"
         );
     }
@@ -249,7 +247,7 @@ fn tells_what_pieces_show(rt: HostRuntime) -> Result<(), Fail> {
     let (rows, cols) = size((2, 4))?;
     for (pieces, text, wanted) in &PIECES {
         let answer = screen_test::pieces_show(rt.alloc(), rows, cols, pieces, text)?;
-        assert_eq!(rt; answer, *wanted);
+        assert!(rt; answer == *wanted);
     }
     Ok(())
 }
@@ -257,18 +255,15 @@ fn tells_what_pieces_show(rt: HostRuntime) -> Result<(), Fail> {
 #[test]
 fn copies_and_defaults_are_these(rt: HostRuntime) {
     let color = Color::Rgb(1, 2, 3);
-    assert_eq!(rt; values::same_color(&color), color);
+    assert!(rt; values::same_color(&color) == color);
     let mode = MouseProtocolMode::AnyMotion;
-    assert_eq!(rt; values::same_mouse_mode(&mode), mode);
+    assert!(rt; values::same_mouse_mode(&mode) == mode);
     let encoding = MouseProtocolEncoding::Sgr;
-    assert_eq!(rt; values::same_mouse_encoding(&encoding), encoding);
+    assert!(rt; values::same_mouse_encoding(&encoding) == encoding);
     let style = CursorStyle::SteadyVerticalBar;
-    assert_eq!(rt; values::same_cursor_style(&style), style);
-    assert_eq!(rt; values::own_color(), Color::Default);
-    assert_eq!(rt; values::no_mouse_mode(), MouseProtocolMode::None);
-    assert_eq!(rt;
-        values::first_mouse_encoding(),
-        MouseProtocolEncoding::Default
-    );
-    assert_eq!(rt; values::own_cursor_style(), CursorStyle::Default);
+    assert!(rt; values::same_cursor_style(&style) == style);
+    assert!(rt; values::own_color() == Color::Default);
+    assert!(rt; values::no_mouse_mode() == MouseProtocolMode::None);
+    assert!(rt; values::first_mouse_encoding() == MouseProtocolEncoding::Default);
+    assert!(rt; values::own_cursor_style() == CursorStyle::Default);
 }

@@ -50,7 +50,7 @@ fn writes_updates(rt: HostRuntime) -> Result<(), Fail> {
     for (every, input, wanted) in &RUNS {
         let mut written = Vec::new(rt.alloc());
         let done = run_every(rt.alloc(), &mut input.as_bytes(), &mut written, *every)?;
-        assert_eq!(rt; done, Ok(()));
+        assert!(rt; done == Ok(()));
         expect_written(written.as_slice(), wanted)?;
     }
     Ok(())
@@ -62,7 +62,7 @@ fn writes_the_same_for_short_reads(rt: HostRuntime) -> Result<(), Fail> {
         let mut written = Vec::new(rt.alloc());
         let mut slow = Slow(input.as_bytes());
         let done = run_every(rt.alloc(), &mut slow, &mut written, *every)?;
-        assert_eq!(rt; done, Ok(()));
+        assert!(rt; done == Ok(()));
         expect_written(written.as_slice(), wanted)?;
     }
     Ok(())
@@ -86,7 +86,7 @@ fn keeps_what_was_written_where_a_read_fails(rt: HostRuntime) -> Result<(), Fail
         };
         let mut written = Vec::new(rt.alloc());
         let done = run_every(rt.alloc(), &mut broken, &mut written, every)?;
-        assert_eq!(rt; done, Err(Fault::Read));
+        assert!(rt; done == Err(Fault::Read));
         expect_written(written.as_slice(), wanted)?;
     }
     Ok(())
@@ -96,8 +96,8 @@ fn keeps_what_was_written_where_a_read_fails(rt: HostRuntime) -> Result<(), Fail
 fn fails_where_a_write_is_refused(rt: HostRuntime) -> Result<(), Fail> {
     let mut closed = Closed(0);
     let done = run_every(rt.alloc(), &mut b"ab".as_slice(), &mut closed, 1)?;
-    assert_eq!(rt; done, Err(Fault::Write));
-    assert_eq!(rt; closed.0, 1);
+    assert!(rt; done == Err(Fault::Write));
+    assert!(rt; closed.0 == 1);
     Ok(())
 }
 
@@ -110,8 +110,8 @@ fn reads_no_further_than_the_update_that_fails(rt: HostRuntime) -> Result<(), Fa
         room: 16,
     };
     let done = run_every(rt.alloc(), &mut input, &mut full, 1)?;
-    assert_eq!(rt; done, Err(Fault::Write));
-    assert_eq!(rt; input, b"c".as_slice());
+    assert!(rt; done == Err(Fault::Write));
+    assert!(rt; input == b"c".as_slice());
     expect_written(full.bytes.as_slice(), "a")
 }
 
@@ -119,6 +119,6 @@ fn reads_no_further_than_the_update_that_fails(rt: HostRuntime) -> Result<(), Fa
 fn fails_where_a_flush_is_refused(rt: HostRuntime) -> Result<(), Fail> {
     let mut unflushed = Unflushed(Vec::new(rt.alloc()));
     let done = run_every(rt.alloc(), &mut b"ab".as_slice(), &mut unflushed, 1)?;
-    assert_eq!(rt; done, Err(Fault::Write));
+    assert!(rt; done == Err(Fault::Write));
     expect_written(unflushed.0.as_slice(), "")
 }

@@ -35,8 +35,8 @@ fn writes_the_screen(rt: HostRuntime) -> Result<(), Fail> {
             number(*cols)?,
             *mode,
         );
-        assert_eq!(rt; done, Ok(()));
-        assert_eq!(rt; written.as_slice(), wanted.as_bytes());
+        assert!(rt; done == Ok(()));
+        assert!(rt; written.as_slice() == wanted.as_bytes());
     }
     Ok(())
 }
@@ -67,8 +67,8 @@ fn writes_nothing_where_a_read_fails(rt: HostRuntime) -> Result<(), Fail> {
         };
         let mut written = Vec::new(rt.alloc());
         let done = run_small(rt.alloc(), &mut broken, &mut written)?;
-        assert_eq!(rt; done, Err(Fault::Read));
-        assert_eq!(rt; written.len(), 0);
+        assert!(rt; done == Err(Fault::Read));
+        assert!(rt; written.len() == 0);
     }
     Ok(())
 }
@@ -77,8 +77,8 @@ fn writes_nothing_where_a_read_fails(rt: HostRuntime) -> Result<(), Fail> {
 fn fails_where_a_write_is_refused(rt: HostRuntime) -> Result<(), Fail> {
     let mut closed = Closed(0);
     let done = run_small(rt.alloc(), &mut b"ab".as_slice(), &mut closed)?;
-    assert_eq!(rt; done, Err(Fault::Write));
-    assert_eq!(rt; closed.0, 1);
+    assert!(rt; done == Err(Fault::Write));
+    assert!(rt; closed.0 == 1);
     Ok(())
 }
 
@@ -89,8 +89,8 @@ fn leaves_a_beginning_where_a_write_takes_nothing(rt: HostRuntime) -> Result<(),
         room: 9,
     };
     let done = run_small(rt.alloc(), &mut b"ab".as_slice(), &mut full)?;
-    assert_eq!(rt; done, Err(Fault::Write));
-    assert_eq!(rt; full.bytes.as_slice(), b"\x1b[?25h\x1b[m".as_slice());
+    assert!(rt; done == Err(Fault::Write));
+    assert!(rt; full.bytes.as_slice() == b"\x1b[?25h\x1b[m".as_slice());
     Ok(())
 }
 
@@ -101,11 +101,8 @@ fn tries_an_interrupted_write_again(rt: HostRuntime) -> Result<(), Fail> {
         interrupts: false,
     };
     let done = run_small(rt.alloc(), &mut b"ab".as_slice(), &mut slow)?;
-    assert_eq!(rt; done, Ok(()));
-    assert_eq!(rt;
-        slow.bytes.as_slice(),
-        b"\x1b[?25h\x1b[m\x1b[H\x1b[Jab".as_slice()
-    );
+    assert!(rt; done == Ok(()));
+    assert!(rt; slow.bytes.as_slice() == b"\x1b[?25h\x1b[m\x1b[H\x1b[Jab".as_slice());
     Ok(())
 }
 
@@ -113,10 +110,7 @@ fn tries_an_interrupted_write_again(rt: HostRuntime) -> Result<(), Fail> {
 fn fails_where_a_flush_is_refused(rt: HostRuntime) -> Result<(), Fail> {
     let mut unflushed = Unflushed(Vec::new(rt.alloc()));
     let done = run_small(rt.alloc(), &mut b"ab".as_slice(), &mut unflushed)?;
-    assert_eq!(rt; done, Err(Fault::Write));
-    assert_eq!(rt;
-        unflushed.0.as_slice(),
-        b"\x1b[?25h\x1b[m\x1b[H\x1b[Jab".as_slice()
-    );
+    assert!(rt; done == Err(Fault::Write));
+    assert!(rt; unflushed.0.as_slice() == b"\x1b[?25h\x1b[m\x1b[H\x1b[Jab".as_slice());
     Ok(())
 }
