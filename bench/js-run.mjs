@@ -1,5 +1,7 @@
 // js-run.mjs process MODULE FILE: prints the MB/s at which a module processes a file.
 // js-run.mjs xterm - FILE: prints the MB/s at which the parser of xterm.js does.
+// js-run.mjs rows MODULE FILE: prints the speed at which a module processes a file whose rows are reported, as a part of the
+// speed without that: if the callback counts the rows, and if it reads their text.
 // js-run.mjs calls MODULE: prints the microseconds that calls take, and how long a module takes to load.
 //
 // All are of processor time.
@@ -35,6 +37,28 @@ async function processFile(module, file) {
   printSpeed(bytes.length, 12, () => {
     for (let at = 0; at < bytes.length; at += CHUNK) parser.process(bytes.subarray(at, at + CHUNK));
   });
+}
+
+async function reportRows(module, file) {
+  const { Parser } = await load(readFileSync(module));
+  const bytes = readFileSync(file);
+  let count = 0;
+  const callbacks = [
+    {},
+    { onScroll: (rows) => (count += rows.length) },
+    { onScroll: (rows) => rows.forEach(({ text }) => (count += text.length)) },
+  ];
+  const parsers = callbacks.map((some) => new Parser(24, 80, { callbacks: some }));
+  const best = parsers.map(() => Infinity);
+  for (let run = 0; run < 30; run++) {
+    parsers.forEach((parser, k) => {
+      const microseconds = spent(() => {
+        for (let at = 0; at < bytes.length; at += CHUNK) parser.process(bytes.subarray(at, at + CHUNK));
+      });
+      best[k] = Math.min(best[k], microseconds);
+    });
+  }
+  console.log(best.slice(1).map((time) => (best[0] / time).toFixed(2)).join("\t"));
 }
 
 function xterm(_, file) {
@@ -89,4 +113,4 @@ async function calls(module) {
 }
 
 const [what, ...words] = process.argv.slice(2);
-await { process: processFile, xterm, calls }[what](...words);
+await { process: processFile, xterm, rows: reportRows, calls }[what](...words);

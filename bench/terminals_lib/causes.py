@@ -9,7 +9,7 @@ WIDTHS, WRAPPED, SHIFTED = "own widths", "wrap after own widths", "shifted by ow
 SCROLLED = "scroll by own widths"
 PLACE, INTENSITY, WIDE, OTHER = "cursor's place", "bold and dim", "wide glyph", "other"
 LINE_FEED, ORPHAN = "line feed after a wide glyph", "half of a wide glyph"
-# The causes that lie in the terminal, and those that are faults of other output than portable output only.
+# The causes that lie in the terminal, and those that portable output avoids.
 OWN, AVOIDED = (WIDTHS, SCROLLED, LINE_FEED, ORPHAN), (SHIFTED, WRAPPED)
 # From the least telling cause of a cell to the most telling one.
 CAUSES = (WIDTHS, ORPHAN, SCROLLED, WRAPPED, PLACE, INTENSITY, WIDE, OTHER)

@@ -79,7 +79,9 @@ class Kitty:
         return row[: self.cols]
 
     def raw(self):
-        """Returns the rows of cells, and below them the cursor. `as_ansi` leaves out the looks of blanks at a row's end."""
+        """Returns the rows of cells, followed by a row that consists of the cursor. Cells are read one by one, since kitty's
+        text of a line leaves out the attributes of blanks at its end.
+        """
         rows = [self.row(self.screen.line(at)) for at in range(self.screen.lines)]
         return [*rows, [seen_cursor(*self.cursor(), self.screen.cursor_visible, self.cols)]]
 

@@ -39,7 +39,14 @@ STATES = {
     "alternate screen": "\x1b[?1049h",
     "unfinished control sequence": "\x1b[12;3",
     "unfinished operating system command": "\x1b]2;title",
+    "unfinished character": b"\xe6\xbc",
+    "synchronized output": "\x1b[?2026h",
+    "German characters": "\x1b[?42h\x1b(K",
+    "explicit order from right to left": "\x1b[8l\x1b[2 k",
 }
+
+# The states that TERMINAL_SETUP is known to leave: libvterm shows U+FFFD for an unfinished character before the next text.
+KNOWN = {"libvterm": ["unfinished character"]}
 
 
 def is_right_after(terminals, before, outputs):
@@ -60,11 +67,16 @@ def wrong_states(make, program):
     first, second = pair_of_updates(program, SIZE, FIRST, SECOND)
     outputs = first.outputs["redraw"], second.outputs["scrolling"]
     terminals = Terminals(make, SIZE)
-    wrong, remaining = [], []
-    for name, state in STATES.items():
-        if not is_right_after(terminals, state.encode(), outputs):
-            wrong.append(name)
-        if not is_right_after(terminals, state.encode() + setup, outputs):
-            remaining.append(name)
+    found = []
+    for after in b"", setup:
+        wrong = []
+        for name, state in STATES.items():
+            state = state if isinstance(state, bytes) else state.encode()
+            if not is_right_after(terminals, state + after, outputs):
+                wrong.append(name)
+                # A reset does not end each state, such as xterm's national characters.
+                terminals.end()
+                terminals = Terminals(make, SIZE)
+        found.append(wrong)
     terminals.end()
-    return wrong, remaining
+    return found

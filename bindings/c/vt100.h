@@ -29,12 +29,13 @@
  *     handle and stores the object in it; vt100_free frees the object and empties the handle. The
  *     library owns the object. The caller owns the handle and may move it, but must not change
  *     `at`. If a handle is copied, only one of the copies may be used from then on. A handle holds
- *     one of four kinds of objects:
+ *     one of five kinds of objects:
  *
  *         VT100_PARSER   parses bytes, maintains a screen, and logs events
  *         VT100_SCREEN   a saved screen, which parses nothing
  *         VT100_MIRROR   parses bytes, and generates updates for viewers (other terminals)
  *         VT100_CAPTURE  the state of a capture (the text of rows with their attributes)
+ *         VT100_CHARSETS the state of a translator of character sets (line drawing to Unicode)
  *
  * THREADS
  *     A handle may be passed to another thread. Only one call at a time may use a handle, even if
@@ -85,12 +86,16 @@
  *     vt100 whose behavior the library reproduces.
  *
  * RUNNING A PROGRAM
- *     The library runs on Linux with glibc, on 64-bit ARM processors (aarch64), and on x86-64
- *     processors of level x86-64-v2 (SSE4.2 and POPCNT, available since about 2009). On older
- *     processors, programs are killed by SIGILL. A program linked to libvt100.a needs no other
- *     files of this library. A program linked to libvt100.so needs libvt100.so.MAJOR where the
- *     dynamic linker finds it: in a system directory, in a directory in LD_LIBRARY_PATH, or in one
- *     that was specified when linking (-Wl,-rpath,DIRECTORY).
+ *     The prepared library runs on Linux with glibc, on 64-bit ARM processors (aarch64), on riscv64
+ *     processors (as an archive only), and on x86-64 processors of level x86-64-v2 (SSE4.2 and
+ *     POPCNT, available since about 2009). On older processors, programs are killed by SIGILL. The
+ *     archive for x86-64 also links with musl, and there is one for Windows on x86-64, for programs
+ *     that a MinGW compiler builds. For all other systems, there is the library as source in C
+ *     (vt100.c and heap.c), which a compiler of C99 builds; its behavior is the same.
+ *     A program linked to libvt100.a needs no other files of this library. A program linked to
+ *     libvt100.so needs libvt100.so.MAJOR where the dynamic linker finds it: in a system directory,
+ *     in a directory in LD_LIBRARY_PATH, or in one that was specified when linking
+ *     (-Wl,-rpath,DIRECTORY).
  *
  * RETURN VALUE
  *     Most functions return a status. If it is not VT100_OK, no results are stored and nothing has
@@ -111,7 +116,7 @@ extern "C" {
 /* ---- versions */
 
 #define VT100_VERSION_MAJOR 1
-#define VT100_VERSION_MINOR 2
+#define VT100_VERSION_MINOR 3
 #define VT100_CRATE_VERSION "0.18.1"
 
 /* ---- handles and statuses */
@@ -150,7 +155,8 @@ enum {
     VT100_PARSER = 1,
     VT100_SCREEN = 2,
     VT100_MIRROR = 3,
-    VT100_CAPTURE = 4
+    VT100_CAPTURE = 4,
+    VT100_CHARSETS = 5
 };
 
 /* Kinds of events (see EVENTS below). */
@@ -256,11 +262,17 @@ vt100_status vt100_mirror_new(uint16_t rows, uint16_t cols, size_t scrollback_ca
 vt100_status vt100_capture_new(vt100_handle *out);
 
 /*
+ * Creates a translator of character sets at the start of its input, and stores it in `out`.
+ * VT100_IN_USE, VT100_OUT_OF_MEMORY.
+ */
+vt100_status vt100_charsets_new(vt100_handle *out);
+
+/*
  * Stores a copy of the object in `out`. The copy of a parser or a saved screen is a saved screen
  * with both pages and the scrollback. The copy of a capture is a capture in the same state, without
  * text.
- * VT100_NO_OBJECT. VT100_WRONG_KIND: the handle holds a mirror. VT100_IN_USE: `out` is not empty,
- * or is the same handle. VT100_OUT_OF_MEMORY.
+ * VT100_NO_OBJECT. VT100_WRONG_KIND: the handle holds a mirror or a translator. VT100_IN_USE: `out`
+ * is not empty, or is the same handle. VT100_OUT_OF_MEMORY.
  */
 vt100_status vt100_save(vt100_handle *handle, vt100_handle *out);
 
@@ -285,7 +297,7 @@ vt100_status vt100_swap(vt100_handle *handle, vt100_handle *other);
 /* Frees the object in the handle and empties the handle. Does nothing if the handle is empty. */
 void vt100_free(vt100_handle *handle);
 
-/* Returns the kind of object in the handle: VT100_NONE to VT100_CAPTURE. */
+/* Returns the kind of object in the handle: VT100_NONE to VT100_CHARSETS. */
 uint8_t vt100_kind(vt100_handle *handle);
 
 /* ---- input: for a parser or a mirror */
@@ -295,14 +307,16 @@ uint8_t vt100_kind(vt100_handle *handle);
  * or sequence continues with the next call.
  * VT100_NO_OBJECT, VT100_WRONG_KIND.
  * VT100_OUT_OF_MEMORY: everything before the step whose allocation failed has taken effect, and
- * that step has not. From then on, vt100_process and vt100_process_until return VT100_FAILED and
- * process no bytes; other functions work as before.
+ * that step has not. From then on, vt100_process, vt100_process_until and vt100_process_until_full
+ * return VT100_FAILED and process no bytes; other functions work as before.
  */
 vt100_status vt100_process(vt100_handle *handle, const uint8_t *bytes, size_t len);
 
 /*
- * Parses bytes up to and including the first byte that logs or loses an event, and stores the
- * number of bytes read in `*used`. Call this function until all bytes are read. A logged row does
+ * Parses bytes up to and including the first byte that logs an event, or that loses the first event
+ * since the log was cleared, and stores the number of bytes read in `*used`. If an event had been
+ * lost before the call, nothing is logged, and all bytes are read. Call this function until all
+ * bytes are read. A logged row does
  * not stop parsing if its record has no text, which is the case for every row if
  * VT100_ROWS_WITHOUT_TEXT is requested, and otherwise for each blank row. Such rows stop parsing
  * when the rows that this call has logged take 64 KiB or the log reaches its limit. Only for a
@@ -315,6 +329,22 @@ vt100_status vt100_process_until(vt100_handle *handle, const uint8_t *bytes, siz
                                  size_t *used);
 
 /*
+ * Parses bytes while events of all kinds gather in the log, and stores the number of bytes read in
+ * `*used`. Stops after the first byte whose events bring the log to half of its limit (512 KiB,
+ * unless vt100_set_event_limit was called) or beyond, or that loses the first event since the log
+ * was cleared; otherwise, all bytes are read. A caller that does not need the screen as it is at
+ * each event thus reads many events with few calls. Read and clear the log, and call this function
+ * again until all bytes are read: the events are then the same as those of calls to
+ * vt100_process_until, in the same order.
+ * If the log has reached half of its limit before the call, the first event stops parsing. If an
+ * event had been lost before the call, nothing is logged, and all bytes are read. Only for a parser.
+ * Since version 1.3.
+ * Statuses and `*used` in case of an error: as for vt100_process_until.
+ */
+vt100_status vt100_process_until_full(vt100_handle *handle, const uint8_t *bytes, size_t len,
+                                      size_t *used);
+
+/*
  * Stores the number of bytes that a parser keeps for an unfinished operating system command (OSC,
  * such as one that sets the title): the bytes read after ESC ], not counting control characters.
  * Stores 0 if no command is unfinished. Only memory limits the length of a command. To enforce a
@@ -324,13 +354,32 @@ vt100_status vt100_process_until(vt100_handle *handle, const uint8_t *bytes, siz
  */
 vt100_status vt100_pending_len(vt100_handle *handle, size_t *len);
 
+/*
+ * Stores 1 if a parser or a mirror is in ground state, otherwise 0. In ground state, no escape
+ * sequence, control string or character is half read: the bytes processed so far may be followed by
+ * those of another source, and further bytes are parsed as by a new parser. For a parser or mirror
+ * that ran out of memory, either value is possible. Since version 1.3.
+ * VT100_NO_OBJECT, VT100_WRONG_KIND.
+ */
+vt100_status vt100_is_ground(vt100_handle *handle, uint8_t *out);
+
+/*
+ * Stores how often the input of a parser has asked to erase scrollback: the number of RIS (ESC c)
+ * and ED 3 (CSI 3 J or CSI ? 3 J) sequences that it has processed, even if there was nothing to
+ * erase. Calls of vt100_clear_scrollback are not counted. If the number has changed since an earlier
+ * call, copies of scrollback rows that were made before are outdated. The number stays at UINT64_MAX
+ * when it has reached it. Only for a parser. Since version 1.3.
+ * VT100_NO_OBJECT, VT100_WRONG_KIND.
+ */
+vt100_status vt100_scrollback_erasures(vt100_handle *handle, uint64_t *count);
+
 /* ---- sizes and scrollback */
 
 /*
  * Resizes the terminal. A parser logs events for rows that scroll off and are not kept; a saved
  * screen and a mirror log none.
- * VT100_NO_OBJECT. VT100_WRONG_KIND: the handle holds a capture. VT100_BAD_ARGUMENT: rows or cols
- * is 0. VT100_OUT_OF_MEMORY.
+ * VT100_NO_OBJECT. VT100_WRONG_KIND: the handle holds a capture or a translator.
+ * VT100_BAD_ARGUMENT: rows or cols is 0. VT100_OUT_OF_MEMORY.
  */
 vt100_status vt100_set_size(vt100_handle *handle, uint16_t rows, uint16_t cols);
 
@@ -389,6 +438,18 @@ vt100_status vt100_get_all_cells(vt100_handle *handle, vt100_cell *out, size_t r
 vt100_status vt100_row_wrapped(vt100_handle *handle, uint16_t row, uint8_t *out);
 
 /*
+ * Stores the cells of a row that the screen keeps, whether it is displayed or not: as many as `out`
+ * has room for, which is `room` cells. `row` is the index of the row, counted from 0: first come the
+ * `scrollback_len` rows of scrollback, oldest first, and then the rows of the page. Stores the
+ * number of the row's cells in `*len`, and 1 in `*wrapped` if the row is wrapped, otherwise 0. A
+ * scrollback row has a length of its own, without blank cells at its end, unless it was displayed.
+ * The display does not change, and nothing is allocated. Since version 1.3.
+ * VT100_NO_OBJECT, VT100_WRONG_KIND. VT100_BAD_ARGUMENT: there is no such row.
+ */
+vt100_status vt100_get_row_cells(vt100_handle *handle, size_t row, vt100_cell *out, size_t room,
+                                 size_t *len, uint8_t *wrapped);
+
+/*
  * Stores 1 if the screen is steady, otherwise 0. On a steady screen, every displayed glyph
  * reproduces itself when it is printed on a blank row, so that redraws and diffs display the screen
  * exactly. Only U+FE0F can make a screen unsteady.
@@ -408,6 +469,13 @@ vt100_status vt100_is_steady(vt100_handle *handle, uint8_t *out);
  * wrapped and the next row has text. Newlines at the end are omitted.
  */
 vt100_status vt100_contents(vt100_handle *handle, size_t *len);
+
+/*
+ * Generates the plain text of a row that the screen keeps, whether it is displayed or not, up to its
+ * last character. `row` is the index of the row, as for vt100_get_row_cells. Since version 1.3.
+ * VT100_BAD_ARGUMENT: there is no such row.
+ */
+vt100_status vt100_row_contents(vt100_handle *handle, size_t row, size_t *len);
 
 /*
  * Generates the plain text from one position up to but excluding another, which is empty if the end
@@ -475,19 +543,21 @@ vt100_status vt100_attributes_formatted(vt100_handle *handle, size_t *len);
 
 /*
  * Sequences to write once to a real terminal before its first redraw. A redraw takes it for granted
- * that a terminal is as after a reset. These sequences end an unfinished string, and select UTF-8,
- * ASCII in G0 to G3, the full scroll region without left and right margins, replace mode, automatic
- * wrap, line feeds that keep the column, a normal screen (not reverse video), and tab stops at
- * every eighth column of the first 320. They move the cursor, and draw nothing. Write them again when the
- * terminal's width has changed.
+ * that a terminal is as after a reset. These sequences end an unfinished string and a synchronized
+ * update, and select UTF-8, ASCII in G0 to G3 instead of national characters, the full scroll
+ * region without left and right margins, replace mode, automatic wrap, line feeds that keep the
+ * column, a normal screen (not reverse video), bidirectional text that the terminal orders, from
+ * left to right, and tab stops at every eighth column of the first 320. They move the cursor, and
+ * draw nothing. Write them again when the terminal's width has changed.
  *
  * They are no redraw, and nothing is proved about them. vt100_process reports some of them as
  * unhandled. The terminal must also erase with the current background (bce), which no sequence can
  * select.
  */
 #define VT100_TERMINAL_SETUP                                                                       \
-    "\x1b\\\x1b%G\x1b(B\x1b)B\x1b*B\x1b+B\x0f\x1b[?69l\x1b[r\x1b[?6l\x1b[4l\x1b[20l"                     \
-    "\x1b[?7h\x1b[?45l\x1b[?5l\x1b[3g\r" VT100_20_TAB_STOPS VT100_20_TAB_STOPS "\r"
+    "\x1b\\\x1b[?2026l\x1b[?42l\x1b%G\x1b(B\x1b)B\x1b*B\x1b+B\x0f\x1b[?69l\x1b[r\x1b[?6l"          \
+    "\x1b[4l\x1b[20l\x1b[?7h\x1b[?45l\x1b[?5l\x1b[8h\x1b[0 k\x1b[3g\r"                             \
+    VT100_20_TAB_STOPS VT100_20_TAB_STOPS "\r"
 #define VT100_20_TAB_STOPS                                                                         \
     VT100_5_TAB_STOPS VT100_5_TAB_STOPS VT100_5_TAB_STOPS VT100_5_TAB_STOPS
 #define VT100_5_TAB_STOPS "\x1b[8C\x1bH\x1b[8C\x1bH\x1b[8C\x1bH\x1b[8C\x1bH\x1b[8C\x1bH"
@@ -647,6 +717,26 @@ vt100_status vt100_next_plain(const uint8_t *text, size_t len, size_t at, size_t
 vt100_status vt100_next_row(const uint8_t *text, size_t len, uint16_t width, size_t at, size_t *end,
                             size_t *next);
 
+/* ---- character sets: for a translator
+ *
+ * A parser has no character sets. Programs that draw boxes in DEC Special Graphics, the character
+ * set for line drawing, print letters such as `lqqqk` on it. A translator reads the output of such
+ * a program before a parser does, and replaces these letters by Unicode characters in UTF-8. It
+ * follows the designations of G0 to G3, SO, SI, the single and locking shifts, DECSC and DECRC, the
+ * modes 47, 1047, 1048 and 1049, DECSTR and RIS. All other sets are read as ASCII, and all other
+ * bytes stay as they are, including the designations.
+ */
+
+/*
+ * Translates `len` bytes, stores the translation in `out` and its length in `*out_len`. No byte is
+ * held back, and input may be split anywhere. A translation is at most three times as long as its
+ * input, and `room`, the size of `out`, must be at least that: 3 * len.
+ * VT100_NO_OBJECT, VT100_WRONG_KIND. VT100_BAD_ARGUMENT: `room` is less than 3 * len.
+ * VT100_OUT_OF_MEMORY: the bytes may be passed again.
+ */
+vt100_status vt100_charsets_translate(vt100_handle *charsets, const uint8_t *bytes, size_t len,
+                                      uint8_t *out, size_t room, size_t *out_len);
+
 /* ---- EVENTS: for a parser
  *
  * The events are a program's requests other than drawing (bells, titles, sizes and the clipboard),
@@ -680,7 +770,8 @@ vt100_status vt100_next_row(const uint8_t *text, size_t len, uint16_t width, siz
  * limit applies to the records plus 40 bytes for each cell of a row that scrolled off. Once it is
  * reached, events are lost until vt100_clear_events is called. A caller that clears the log after
  * each vt100_process_until loses events only if those of a single byte exceed the limit, or if an
- * allocation fails.
+ * allocation fails. After each vt100_process_until_full, it loses events only if those of a single
+ * byte exceed half of the limit, or if an allocation fails.
  */
 
 /* A bit of `wanted`: rows are logged without their text. */
@@ -769,7 +860,7 @@ vt100_status vt100_mirror_is_current(vt100_handle *mirror, uint64_t viewer, uint
 /* ---- the version and status messages: the returned pointers are never null, and always valid */
 
 /*
- * Returns the interface version of the library that the program runs with, such as "1.2":
+ * Returns the interface version of the library that the program runs with, such as "1.3":
  * VT100_VERSION_MAJOR and VT100_VERSION_MINOR of that library's header. A program linked to the
  * shared object may run with a later MINOR than it was compiled with.
  */

@@ -45,6 +45,31 @@ export declare class Cell {
   readonly wideContinuation: boolean;
 }
 
+/** A row that a screen keeps. */
+export interface KeptRow {
+  readonly cells: Cell[];
+  /** Whether the text of the row continues on the next row. */
+  readonly wrapped: boolean;
+}
+
+/**
+ * The scrollback of a screen: its rows from the oldest to the latest one. Reading it changes nothing, not even what is
+ * displayed. A row has a length of its own, as described at keptRow, also if it is wider than the screen after a resize.
+ * The alternate screen has no history.
+ *
+ * Negative indices count from the end: `history.at(-1)` is the row above the page. As in arrays, ranges may reach beyond
+ * the ends. An index that is no integer (or, in a range, infinite) is a RangeError.
+ */
+export interface History extends Iterable<KeptRow> {
+  readonly length: number;
+  /** Returns a row, or undefined if there is none at this index. */
+  at(index: number): KeptRow | undefined;
+  /** Returns the rows from `start` (default: the first) up to but excluding `end` (default: after the last). */
+  slice(start?: number, end?: number): KeptRow[];
+  /** Returns the plain text of the rows in a range, which is given as for slice. */
+  rows(start?: number, end?: number): string[];
+}
+
 export interface Size {
   readonly rows: number;
   readonly cols: number;
@@ -122,11 +147,12 @@ export interface State extends Properties {
 /**
  * Callbacks for what a program asks of its terminal besides drawing, for unsupported sequences, and for rows that
  * scroll off and are not kept. Which callbacks there are is decided when the parser is made; other events are not even
- * recorded.
+ * recorded, except for titles. A callback that is no function, and an own function of any other name, is a TypeError.
  *
- * Callbacks are invoked during process, in order, after the byte that completes the sequence and before the next byte
- * is parsed. `screen` is the parser. A callback may read and change it, but must not call process. An exception that a
- * callback throws leaves process; the remaining bytes are not parsed, and no further callbacks are invoked.
+ * Callbacks are invoked during process, in order. All but onScroll are invoked after the byte that completes the sequence
+ * and before the next byte is parsed; onScroll is invoked with all rows that have scrolled off before the next event, or
+ * before process ends. `screen` is the parser. A callback may read and change it, but must not call process. An exception
+ * that a callback throws leaves process; the remaining bytes are not parsed, and no further callbacks are invoked.
  *
  * What a program sends is passed as bytes, because it need not be UTF-8.
  */
@@ -155,12 +181,27 @@ export interface Callbacks {
   unhandledCsi?(screen: Parser, first: number | null, second: number | null, params: number[][], final: string): void;
   /** An operating system command, split at its semicolons. */
   unhandledOsc?(screen: Parser, params: Uint8Array[]): void;
-  /** A row that scrolled off the top of the screen, or out of scrollback, and is not kept, or a row of scrollback that
-      ED 3 (CSI 3 J) erased. `wrapped` is true if its text continues on the next row. setSize may also invoke this. */
-  onScroll?(text: string, wrapped: boolean, alternateScreen: boolean): void;
+  /**
+   * Rows that scrolled off the top of the screen, or out of scrollback, and are not kept, or rows of scrollback that ED 3
+   * (CSI 3 J) erased. setSize may also invoke this.
+   *
+   * It is invoked once for all rows that scroll off before the next event for another callback, or before process ends,
+   * and also each time that 10,000 rows have scrolled off. Since this callback does not get the screen, the parser need not
+   * stop at each row. If it throws, some of the bytes that remain are parsed.
+   */
+  onScroll?(rows: ScrolledRow[]): void;
   /** Invoked instead of the callbacks of the remaining events of a byte if an allocation fails, or if the events of
-      this byte take more than about 1 MiB. */
+      this byte take more than about 1 MiB, or 64 MiB if there is an onScroll. */
   eventsLost?(screen: Parser): void;
+}
+
+/** A row that scrolled off. */
+export interface ScrolledRow {
+  /** The plain text, which is decoded when it is read. */
+  readonly text: string;
+  /** Whether the text continues on the next row. */
+  readonly wrapped: boolean;
+  readonly alternateScreen: boolean;
 }
 
 /** An error that is not an invalid argument. */
@@ -180,6 +221,21 @@ export declare class Vt100Error extends Error {
 export declare const Repeat: { readonly NEVER: 0; readonly ASCII: 4; readonly ANY: 2 };
 export type Repeat = (typeof Repeat)[keyof typeof Repeat];
 
+/**
+ * Sequences to write once to a real terminal before its first redraw, and again when its width has changed: a redraw takes
+ * it for granted that a terminal is as after a reset. They end an unfinished string and a synchronized update, and select
+ * UTF-8, ASCII in G0 to G3 instead of national characters, the full scroll region, replace mode, automatic wrap, a normal
+ * screen, bidirectional text that the terminal orders, from left to right, and tab stops at every eighth column of the
+ * first 320. They move the cursor, and draw nothing. They are no redraw, and nothing is proved about them.
+ */
+export declare const TERMINAL_SETUP: string;
+
+/**
+ * Sequences to write to a real terminal when no more output follows. They undo what redraws and inputModeFormatted can
+ * leave set: they select default attributes, show the cursor, and reset the input modes and the cursor style.
+ */
+export declare const TERMINAL_RESTORE: string;
+
 export interface RedrawOptions {
   /** Whether the output avoids sequences on whose effects real terminals disagree: it changes between bold and dim only
       after a reset, moves the cursor from the last column only to an absolute position, and erases a wide glyph only as
@@ -193,6 +249,21 @@ export interface DiffOptions extends RedrawOptions {
   scroll?: boolean;
   /** Which runs within a row may be written with REP. Some terminals ignore REP. */
   repeat?: Repeat;
+}
+
+/** Colors are written as in CSS. */
+export interface Colors {
+  readonly foreground?: string;
+  readonly background?: string;
+  /** The opacity of dim text, from 0 to 1. */
+  readonly dimOpacity?: number;
+  /** The colors of the palette, from index 0 on. Missing ones are the default ones: xterm's from index 16 on. */
+  readonly palette?: readonly string[];
+}
+
+export interface PictureOptions {
+  /** The colors, which may be a Theme of vt100/view.js. By default, text is light on a dark background. */
+  theme?: Colors;
 }
 
 /** An object in the module's memory. Every method but free throws a Vt100Error with status 6 once it is freed. */
@@ -239,8 +310,15 @@ export interface Screen extends Handle, Properties {
   /** Returns the cells of all displayed rows: `allCells()[row][col]` is a cell. */
   allCells(): Cell[][];
   /** Returns the records of the cells of all displayed rows, one row after the other, 40 bytes each, in `out` or a new
-      array. This is faster than rowBytes for each row. */
+      array. */
   allBytes(out?: Uint8Array): Uint8Array;
+  /** Returns the cells of a row that the screen keeps, whether it is displayed or not, and whether it is wrapped, or
+      undefined if there is no such row. Rows are counted from 0: first come the `scrollbackLen` rows of scrollback, oldest
+      first, and then those of the page. A scrollback row has a length of its own, without blank cells at its end, unless
+      it was displayed. The display does not change. */
+  keptRow(row: number): KeptRow | undefined;
+  /** The scrollback, whose rows can be read without displaying them. */
+  readonly history: History;
   /** Returns the displayed rows whose cells have changed since the last call, each with the records of its cells. The
       first call, and the first one after a resize, returns all rows. The records are valid until the next call. */
   dirty(): Map<number, Uint8Array>;
@@ -254,8 +332,19 @@ export interface Screen extends Handle, Properties {
   contents(): string;
   /** Returns the plain text from one position up to but excluding another. */
   contentsBetween(startRow: number, startCol: number, endRow: number, endCol: number): string;
+  /** Returns the plain text of a row that the screen keeps, up to its last character, or undefined if there is no such
+      row. Rows are counted as by keptRow. */
+  keptText(row: number): string | undefined;
   /** Returns the plain text of each displayed row in `width` columns from column `start` on. */
   rows(start?: number, width?: number): string[];
+  /** Returns the positions in `contents` at which a string, or a match of a regular expression, begins. Matches do not
+      overlap. Text that continues from a wrapped row onto the next row is found, too. */
+  find(text: string | RegExp): Position[];
+
+  /** Returns an element of HTML, `<pre>` with inline styles, that shows the displayed rows in a monospaced font. */
+  toHtml(options?: PictureOptions): string;
+  /** Returns a picture of the displayed rows in SVG. The viewer's monospaced font draws the text. */
+  toSvg(options?: PictureOptions): string;
 
   /** Returns a redraw: the escape sequences that make any plain terminal of this size display this screen. */
   contentsFormatted(): string;
@@ -303,6 +392,11 @@ export interface Screen extends Handle, Properties {
 export interface Parser extends Screen {
   /** The parser itself. save returns a copy. */
   readonly screen: Screen;
+  /** The title of the window (OSC 0 and 2). Bytes that are not UTF-8 are replaced by U+FFFD. A title is lost
+      if the event is (see eventsLost). */
+  readonly title: string;
+  /** The icon name of the window (OSC 0 and 1), in the same form as `title`. */
+  readonly iconName: string;
   /**
    * Parses data and applies it to the screen, invoking callbacks as sequences complete. Bytes may be split anywhere: an
    * incomplete character or sequence continues with the next call. A string must not be split between the two halves of
@@ -312,6 +406,12 @@ export interface Parser extends Screen {
    * calls throw one with status 2.
    */
   process(data: Data): void;
+  /** Whether the parser is in ground state: no escape sequence, control string or character is half read. */
+  readonly isGround: boolean;
+  /** How often the input has asked to erase scrollback: the number of RIS (ESC c) and ED 3 (CSI 3 J or CSI ? 3 J)
+      sequences that were processed, even if there was nothing to erase. If the number has changed, copies of scrollback
+      rows that were made before are outdated. */
+  readonly scrollbackErasures: number;
   /** The number of bytes kept for an unfinished operating system command, which only memory limits. process("\x18")
       ends such a command. */
   readonly pendingLen: number;
@@ -333,6 +433,8 @@ export interface Update {
 export interface Mirror extends Handle {
   /** Parses data as the process of a Parser does. */
   process(data: Data): void;
+  /** Whether the mirror is in ground state: no escape sequence, control string or character is half read. */
+  readonly isGround: boolean;
   setSize(rows: number, cols: number): void;
   /** Adds a viewer and returns its number, which is never reused. */
   join(): bigint;
@@ -346,6 +448,23 @@ export interface Mirror extends Handle {
   updateWith(viewer: bigint, options?: DiffOptions): Update;
   /** Returns whether the viewer has had an update since the last call to process and the last resize. */
   isCurrent(viewer: bigint): boolean;
+}
+
+/**
+ * A translator that replaces what a program prints in DEC Special Graphics, the character set for line drawing, by
+ * Unicode characters in UTF-8.
+ *
+ * A Parser has no character sets, so boxes that are drawn with them appear as letters such as "lqqqk". A translator reads
+ * the output of a program before the parser does. It follows the designations of G0 to G3, SO, SI, the single and locking
+ * shifts, DECSC and DECRC, the modes 47, 1047, 1048 and 1049, DECSTR and RIS. All other sets are read as ASCII, and all
+ * other bytes stay as they are, including the designations.
+ */
+export interface Charsets extends Handle {
+  /**
+   * Returns the translation of data, at most three times as long as its UTF-8. Input may be split anywhere; no byte is
+   * held back. Throws a Vt100Error with status 1 if an allocation fails; part of the data may have been read then.
+   */
+  translate(data: Data): Uint8Array;
 }
 
 export interface ParserOptions {
@@ -363,6 +482,7 @@ export interface MirrorOptions {
 export interface Vt100 {
   readonly Parser: new (rows?: number, cols?: number, options?: ParserOptions) => Parser;
   readonly Mirror: new (rows?: number, cols?: number, options?: MirrorOptions) => Mirror;
+  readonly Charsets: new () => Charsets;
   readonly Screen: typeof Screen;
   readonly Cell: typeof Cell;
   readonly Repeat: typeof Repeat;
@@ -370,14 +490,18 @@ export interface Vt100 {
   readonly MouseProtocolEncoding: typeof MouseProtocolEncoding;
   readonly CursorStyle: typeof CursorStyle;
   readonly Vt100Error: typeof Vt100Error;
-  /** The version of the interface of the library, such as "1.2". */
+  /** The version of the interface of the library, such as "1.3". */
   readonly version: string;
-  /** The memory of the instance, which only grows. */
-  readonly memory: WebAssembly.Memory;
+  /** The memory of the instance, a WebAssembly.Memory, which only grows. */
+  readonly memory: { readonly buffer: ArrayBuffer };
 }
 
-/** A compiled module, or where to find it. A string is a URL, relative to that of the page. */
-export type Source = URL | string | Response | BufferSource | WebAssembly.Module;
+/**
+ * A compiled module (WebAssembly.Module), its bytes (an ArrayBuffer or a view), or where to find it: a Response, a URL, or
+ * a string, which is a URL relative to that of the page or worker. The types of these objects are those of the libraries
+ * for browsers and Node, which a program need not have, so any object is accepted here; `load` rejects the others.
+ */
+export type Source = string | object;
 
 /** Compiles and instantiates vt100.wasm, which is beside vt100.js unless `source` is given. */
 export declare function load(source?: Source | Promise<Source>): Promise<Vt100>;

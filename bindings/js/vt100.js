@@ -6,15 +6,17 @@
 //     parser.process("this text is \x1b[31mRED\x1b[m");
 //     parser.cell(0, 13).fgcolor; // 1
 
+import { Charsets } from "./lib/charsets.js";
 import { Vt100Error } from "./lib/errors.js";
-import { Instance } from "./lib/instance.js";
+import { Instance, isArrayBuffer } from "./lib/instance.js";
 import { Mirror } from "./lib/mirror.js";
 import { Repeat } from "./lib/options.js";
 import { Parser } from "./lib/parser.js";
 import { Cell } from "./lib/records.js";
 import { Screen } from "./lib/screen.js";
+import { TERMINAL_RESTORE, TERMINAL_SETUP } from "./lib/terminal.js";
 
-export { Cell, Repeat, Screen, Vt100Error };
+export { Cell, Repeat, Screen, TERMINAL_RESTORE, TERMINAL_SETUP, Vt100Error };
 
 export const MouseProtocolMode = Object.freeze({
   NONE: 0,
@@ -43,10 +45,20 @@ async function read(file) {
   return readFile(file);
 }
 
-/** Returns the URL of the module: `source`, which may be relative to the page, or vt100.wasm beside this file. */
-function urlOf(source) {
-  if (source === undefined) return new URL("./vt100.wasm", import.meta.url);
-  return typeof source === "string" ? new URL(source, globalThis.document?.baseURI) : source;
+/** Returns the URL of vt100.wasm beside this file. Bundles in other formats than that of modules have no URL. */
+function defaultUrl() {
+  if (import.meta.url === undefined) throw new TypeError("this bundle does not know its URL: pass the module to load()");
+  return new URL("./vt100.wasm", import.meta.url);
+}
+
+/** Returns the URL of a string, which may be relative to the page or the worker. */
+function urlOf(text) {
+  try {
+    return new URL(text, globalThis.document?.baseURI ?? globalThis.location?.href);
+  } catch (cause) {
+    const message = `${JSON.stringify(text)} is not a URL; for a file, pass its URL (pathToFileURL) or its bytes`;
+    throw new TypeError(message, { cause });
+  }
 }
 
 /** Returns the compiled module of a response, while it is downloaded if the server sends the right media type. */
@@ -61,9 +73,12 @@ async function compileResponse(response) {
 /** Returns the compiled module. */
 async function compile(source) {
   if (source instanceof WebAssembly.Module) return source;
-  if (source instanceof ArrayBuffer || ArrayBuffer.isView(source)) return WebAssembly.compile(source);
+  if (isArrayBuffer(source) || ArrayBuffer.isView(source)) return WebAssembly.compile(source);
   if (typeof source?.arrayBuffer === "function") return compileResponse(source);
-  const url = urlOf(source);
+  if (!["undefined", "string"].includes(typeof source) && !(source instanceof URL)) {
+    throw new TypeError("load() takes a URL, a Response, the bytes of the module, or a WebAssembly.Module");
+  }
+  const url = source === undefined ? defaultUrl() : urlOf(source);
   return url.protocol === "file:" ? WebAssembly.compile(await read(url)) : compileResponse(await fetch(url));
 }
 
@@ -81,6 +96,11 @@ export async function load(source) {
         super(instance, rows, cols, options);
       }
     },
+    Charsets: class extends Charsets {
+      constructor() {
+        super(instance);
+      }
+    },
     Screen,
     Cell,
     Repeat,
@@ -88,7 +108,7 @@ export async function load(source) {
     MouseProtocolEncoding,
     CursorStyle,
     Vt100Error,
-    version: instance.constant(exports.vt100_version()),
+    version: instance.constant(instance.library.vt100_version()),
     memory: instance.memory,
   };
 }

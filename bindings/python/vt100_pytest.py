@@ -1,8 +1,26 @@
-"""A plugin of pytest, which finds it by its entry point: a failed `==` of two screens says what
-differs between them. It does not import `vt100`, which is imported by the tests that use it."""
+"""A plugin of pytest, which finds it by its entry point: a fixture that runs programs in terminals,
+and an explanation of a failed `==` of two screens. It imports `vt100` only when a test uses it."""
 
+from __future__ import annotations
+
+import contextlib
 import sys
-from typing import List, Optional
+from typing import TYPE_CHECKING, Callable, Iterator, List, Optional
+
+import pytest
+
+if TYPE_CHECKING:
+    from vt100.testing import Terminal
+
+
+@pytest.fixture
+def vt100_terminal() -> Iterator[Callable[..., Terminal]]:
+    """Returns a function that runs a program in a `vt100.testing.Terminal`, whose arguments it
+    takes. The terminals are closed after the test, the last one first."""
+    from vt100.testing import Terminal
+
+    with contextlib.ExitStack() as terminals:
+        yield lambda *args, **kwargs: terminals.enter_context(Terminal(*args, **kwargs))
 
 
 def pytest_assertrepr_compare(op: str, left: object, right: object) -> Optional[List[str]]:

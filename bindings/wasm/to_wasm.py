@@ -1,5 +1,5 @@
 #!/usr/bin/env python3
-"""to_wasm.py IN.ll OUT.ll: makes the LLVM module that the kit compiles for x86-64 one for wasm64.
+"""to_wasm.py [--unguarded] IN.ll OUT.ll: makes the LLVM module that the kit compiles for x86-64 one for wasm64.
 
 The kit's LLVM backend writes the same instructions for every processor with 64-bit pointers. The script replaces the
 layout and the target, removes the attributes that name a processor, and stops if it finds anything else that depends on
@@ -7,7 +7,7 @@ one.
 
 A host can catch a trap and call the library again, whose objects may then be half changed. Each exported function is
 therefore guarded as the kit's own functions for wasm64 are: after a trap, every further call traps. The linker defines
-the three functions that the guard calls.
+the three functions that the guard calls. --unguarded leaves the guard out, for hosts that end at a trap.
 """
 import re
 import sys
@@ -32,6 +32,9 @@ EXPORT = re.compile(r"^define (?!internal|private)(.*?)@(\w+)\((.*)\)(.*?)(?: #\
 
 # What the type of a result has in a definition, and not in a call or a return.
 RESULT_ATTRIBUTES = r"\b(?:noundef|zeroext|signext|dso_local|range\([^)]*\)) ?"
+
+# A result that fills only a part of a value of WebAssembly. x86-64 leaves the rest undefined, which a host would read.
+NARROW_RESULT = r"(?<!zeroext )(?<!signext )\bi(?:1|8|16)\b"
 
 GUARDED = """\
 define {result}@{name}({parameters}) #{number} {{
@@ -79,6 +82,7 @@ def guarded(found, number):
         end = "ret void"
     else:
         call, end = f"%result = {call}", f"ret {kind} %result"
+    result = re.sub(NARROW_RESULT, r"zeroext \g<0>", result)
     return GUARDED.format(result=result, name=name, parameters=parameters, number=number, call=call, end=end)
 
 
@@ -102,7 +106,8 @@ def internal(found):
 
 
 def main():
-    source, target = sys.argv[1:]
+    is_guarded = sys.argv[1:2] != ["--unguarded"]
+    source, target = sys.argv[1 if is_guarded else 2:]
     with open(source, encoding="utf-8") as file:
         text = retarget(file.read())
     found = dependent(text)
@@ -111,9 +116,10 @@ def main():
     names = [name for _, name, _, _ in EXPORT.findall(text)]
     if not names:
         sys.exit("to_wasm: no function is exported")
-    if called(text, names):
-        sys.exit("to_wasm: exported and called: " + ", ".join(called(text, names)))
-    text = guard(text)
+    if is_guarded:
+        if called(text, names):
+            sys.exit("to_wasm: exported and called: " + ", ".join(called(text, names)))
+        text = guard(text)
     with open(target, "w", encoding="utf-8") as file:
         file.write(text)
 

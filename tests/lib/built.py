@@ -56,7 +56,8 @@ def take(name, folder, stamp, to):
 
 def take_built(root, name, to):
     """Copies the files, unless they are there already, and the libraries on which a crate depends, up to the first that
-    cannot be copied. Prints a report of one line, and returns whether the kit has the expected form.
+    cannot be copied. Prints a report of one line, and returns whether all were copied, and whether the kit's module has
+    the expected form.
     """
     if not os.path.isdir(f"{to}/crates"):
         copy_files(root, to)
@@ -67,4 +68,4 @@ def take_built(root, name, to):
         count += not why
     end = f": {why}; rt proves the others anew" if why else ""
     print(f"take-built: took {count} of {len(below)} libraries below {name}{end}", flush=True)
-    return error is None
+    return not why, error is None

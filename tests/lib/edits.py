@@ -6,7 +6,7 @@ import subprocess
 
 from sources import functions_in, read
 
-FORM = re.compile(r"file: (?P<file>src/\S+)(?P<pairs>(\nold: .*\nnew:.*)+)")
+FORM = re.compile(r"file: (?P<file>(?:src|specs)/\S+)(?P<pairs>(\nold: .*\nnew:.*)+)")
 PAIR = re.compile(r"\nold: (.*)\nnew: ?(.*)")
 
 
@@ -16,7 +16,8 @@ def write(path, text):
 
 
 class Edit:
-    """A wrong edit: its pairs of texts, and the functions that it changes; there are none if the edit cannot be applied.
+    """A wrong edit: its pairs of texts, and whether it can be applied. An edit of a source changes functions; an edit of a
+    definition changes what all functions of the crate state.
     """
 
     def __init__(self, folder, name, text):
@@ -25,8 +26,11 @@ class Edit:
         form = FORM.fullmatch("\n".join(lines)) if name else None
         self.file = form["file"] if form else ""
         self.pairs = PAIR.findall(form["pairs"]) if form else []
+        self.is_definition = self.file.startswith("specs/")
         is_file = form and os.path.exists(f"{folder}/{self.file}")
-        self.functions = self.changed() if is_file and self.applied(self.source()) is not None else []
+        can_apply = is_file and self.applied(self.source()) is not None
+        self.functions = self.changed() if can_apply and not self.is_definition else []
+        self.fits = bool(self.functions) or bool(can_apply) and self.is_definition
 
     def source(self):
         return read(f"{self.folder}/{self.file}")
@@ -48,7 +52,7 @@ class Edit:
 
     def paths(self):
         """Returns the argument of --only for each changed function: the end of its name as a check prints it, or
-        its module if it is a method of a trait."""
+        its module if it is a method of a trait. An edit of a definition has none, so that everything is checked."""
         module = re.sub(r"^src/|\.rt$", "", self.file).replace("/", "::")
         for it in self.functions:
             if it.block and it.block.trait:
@@ -62,11 +66,13 @@ class Edit:
         return file == self.file and any(it.first <= line <= it.last for it in self.functions)
 
     def meets(self, other):
-        return any(other.has(self.file, it.first) for it in self.functions)
+        return self.is_definition or other.is_definition or any(other.has(self.file, it.first) for it in self.functions)
 
     def changes(self, function):
         """Returns whether the edit changes a function of a check, judging by the places that were named, or by its
         name and the first module of its path (a method is named in the module of its type)."""
+        if self.is_definition:
+            return True
         if function.places:
             return any(self.has(*it) for it in function.places)
         module = re.sub(r"^src/|\.rt$", "", self.file).split("/")[0]
@@ -91,7 +97,9 @@ def in_must_fail(folder):
 
 
 def groups_of(edits):
-    """Returns the edits in groups. No two edits of a group change the same function or interfere with each other."""
+    """Returns the edits in groups. No two edits of a group change the same function or interfere with each other. An edit
+    of a definition is alone in its group.
+    """
     groups = []
     for edit in edits:
         for group in groups:
@@ -99,7 +107,7 @@ def groups_of(edits):
             text = edit.source()
             for it in [*beside, edit]:
                 text = text and it.applied(text)
-            if text and not any(it.meets(edit) for it in beside):
+            if text and not any(it.meets(edit) for it in group):
                 group.append(edit)
                 break
         else:

@@ -106,6 +106,12 @@ class Holes(unittest.TestCase):
         path = "tests/surface.expected"
         self.assert_reported(path, r"^fn Cell::bold \| ", "fn Cell::", ["tests/surface"], "fn Cell::bold")
 
+    def test_a_table_without_its_marker(self):
+        self.assert_reported("README.md", r"^<!-- speed -->\n", "", ["bench/table"], "no table speed")
+        self.assert_reported("docs/PERFORMANCE.md", r"^<!-- sizes -->\n", "", ["bench/table"], "no table sizes")
+        self.assert_reported("README.md", r"^<!-- speed -->$", "<!-- sped -->", ["bench/table"], "README.md: sped")
+        self.assert_reported("README.md", r"^(\| log text \|) \d+", r"\1 1", ["bench/table"], "has other counts")
+
     def test_an_unused_import(self):
         file = "crates/vt_cells/src/color.rt"
         line = r"\A(.*\n)"
@@ -129,62 +135,3 @@ class AlwaysRefused(unittest.TestCase):
         self.assertEqual(self.judged(lambda text: re.sub(r"-- .*\nrefused\n(?=case)", "", text)), 1)
         self.assertEqual(self.judged(lambda text: text.replace("status=0", "status=101")), 1)
         self.assertEqual(self.judged(lambda text: ""), 1)
-
-
-FAKE_RT = """#!/bin/sh
-echo 'rt: low proved'
-echo "$LAST"
-exit "$STATUS"
-"""
-
-
-class All(unittest.TestCase):
-    """tests/all with tests that do nothing, and an `rt ci` that prints prescribed output."""
-
-    def setUp(self):
-        self.room = tempfile.mkdtemp(prefix="all-")
-        os.mkdir(f"{self.room}/tests")
-        shutil.copy(f"{ROOT}/tests/all", f"{self.room}/tests")
-        names = "wrong-edits documents surface trust imports self refusals programs pictures scarce bindings targets"
-        others = ["bench/table", "bindings/archive", "bindings/wasm/toolchain"]
-        for name in [*others, *[f"tests/{it}" for it in names.split()]]:
-            self.script(name, "exit 0")
-        self.script("bin/rt", FAKE_RT)
-
-    def tearDown(self):
-        shutil.rmtree(self.room)
-
-    def script(self, name, text):
-        os.makedirs(os.path.dirname(f"{self.room}/{name}"), exist_ok=True)
-        write(f"{self.room}/{name}", text if text.startswith("#!") else f"#!/bin/sh\n{text}\n")
-        os.chmod(f"{self.room}/{name}", 0o755)
-
-    def ran(self, last="7 passed, 0 failed", status="0"):
-        """Returns the status and the last line of tests/all."""
-        path = f"{self.room}/bin:{os.environ['PATH']}"
-        ran = subprocess.run(
-            [f"{self.room}/tests/all"], env={**os.environ, "PATH": path, "LAST": last, "STATUS": status},
-            stdin=subprocess.DEVNULL, stdout=subprocess.PIPE, stderr=subprocess.STDOUT, universal_newlines=True,
-            check=False,
-        )
-        return ran.returncode, ran.stdout.rstrip("\n").rpartition("\n")[2]
-
-    def test_all_is_counted(self):
-        self.assertEqual(self.ran(), (0, "22 passed, 0 failed"))
-
-    def test_a_failed_program_test(self):
-        self.script("tests/pictures", "exit 1")
-        self.assertEqual(self.ran(), (1, "21 passed, 1 failed"))
-
-    def test_a_failed_test_beside_the_gate(self):
-        self.script("tests/refusals", "sleep 0.1; exit 1")
-        self.assertEqual(self.ran(), (1, "21 passed, 1 failed"))
-
-    def test_a_failed_first_test(self):
-        self.script("tests/trust", "exit 1")
-        self.assertEqual(self.ran(), (1, "6 passed, 1 failed"))
-
-    def test_a_failed_gate(self):
-        status, last = self.ran("6 passed, 1 failed", "1")
-        self.assertEqual((status, last), (1, "21 passed, 1 failed"))
-        self.assertEqual(self.ran("", "2"), (2, "15 passed, 1 failed"))

@@ -39,6 +39,9 @@ RENAMED = (
 )
 FIELD = "./proofs/a/Answers.antt:3:1: error: `r`: record `Rattle.low.After` has no field `if-a` (nearest: .if-b)\n"
 FALSE = OPEN.replace("\n", "; the facts known there allow values at which this goal is false\n")
+LEMMA = "./proofs/Steps.antt:3:1: error: `step`: the two types first differ\n"
+LEMMA_NAME = "./proofs/Steps.antt:3:1: error: `step`: record `Rattle.low.Laws` has no field `law`\n"
+UNADMITTED = "./proofs/a/Answers.antt:3:1: error: `returns`: `step` was not admitted\n"
 LIMIT = "note: src/a.rt:4:1: it is not proved that it holds (`returns`); `search` gave up at one of its limits\n"
 
 
@@ -179,6 +182,20 @@ class Edits(unittest.TestCase):
         self.assertEqual((whole.name, whole.pairs), ("a", [("one()", "  two()"), ("two()", "")]))
         found = {it.name: bool(it.functions) for it in in_file(self.room.name)}
         self.assertEqual(found, {"": False, "b": True, "c": False, "d": False, "e": False, "f": False})
+
+    def test_definitions(self):
+        self.write("specs/Laws.antt", "law = one\nother = one\n")
+        rest = "".join(f"== {it}\nfile: specs/Laws.antt\nold: {it}\nnew: x\n" for it in ("law", "other", "one"))
+        self.write("wrong-edits.txt", f"== a\nfile: src/lib.rt\nold: one() == 1\nnew: x\n{rest}")
+        body, law, other, twice = in_file(self.room.name)
+        self.assertEqual([it.fits for it in (body, law, other, twice)], [True, True, True, False])
+        self.assertEqual(groups_of([body, law, other]), [[body], [law], [other]])
+        self.assertEqual([*law.paths()], [])
+        refused = verdicts.Verdict(1, LEMMA + UNADMITTED + "fn low::a: not proved")
+        self.assertEqual(verdicts.judge(refused, [law]), ({law: verdicts.REFUSED}, []))
+        names = verdicts.Verdict(1, LEMMA_NAME + UNADMITTED + "fn low::a: not proved")
+        self.assertEqual(verdicts.judge(names, [law]), ({law: verdicts.NAMES_ONLY}, []))
+        self.assertEqual(verdicts.judge(verdicts.Verdict(0, PROVED), [law]), ({law: verdicts.PROVED}, []))
 
     def test_groups(self):
         edits = self.edits("self.rows", ".get(at)", "one() == 1")

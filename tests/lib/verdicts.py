@@ -2,7 +2,7 @@
 
 A function is rejected for its meaning if a goal stays open, or if an answer in its proof files does not prove its goal.
 If the search gave up at one of its limits for every goal that stays open, the function is told apart, since these goals
-may hold. It is not rejected for its meaning if only names in its proof files no longer match: a field that the edit
+may hold. An edit of a definition is also rejected for its meaning if a lemma is no longer proved. It is not rejected for its meaning if only names in its proof files no longer match: a field that the edit
 renamed, or a goal that now has another name. The goal of such an answer is reported as open under its new name, so one
 open goal is ignored for each such answer, except goals that values show to be false. If the names were changed for a
 second attempt, answers no longer count, but only goals that stay open. Nor is a function rejected for its meaning if a
@@ -12,6 +12,7 @@ import re
 
 FUNCTION = re.compile(r"fn (\S+): (.*)")
 OPEN_GOAL = re.compile(r"note: src/(\S+?):(\d+):\d+: it is not proved.*?\(`([^`]*)`\)(.*)")
+LEMMA_ERROR = re.compile(r"(?:\./)?proofs/\w+\.antt:\d+:\d+: error: (.*)")
 PROOF_ERROR = re.compile(r"(?:\./)?proofs/(\S+)/\w+\.antt:\d+:\d+: error: (.*)")
 SOURCE_ERROR = re.compile(r"(?:\./)?(src/\S+?):(\d+):\d+: error")
 RENAMED_GOAL = re.compile(r"module `[^`]*\.(?:Goals|Given)` has no `([^`]*)`")
@@ -42,6 +43,11 @@ def is_renamed(old, new):
     return condition.search(old) is not None and condition.sub(r"\1", old) == condition.sub(r"\1", new)
 
 
+def is_about_names(error):
+    """Returns whether an error in a proof file only says that names no longer match."""
+    return bool(NAMES.search(re.sub(r"`[^`]*`", "``", error)))
+
+
 def gave_up(goal):
     """Returns whether the search for a proof of a goal ended at one of its limits."""
     return "gave up" in goal[4]
@@ -60,7 +66,7 @@ class Function:
         self.open = is_false + others[len(renamed) :]
         # (an answer to a goal about a condition that changed may not fit, though the goal holds)
         answers = [] if has_renames else errors
-        self.wrong_answers = [it for it in answers if not NAMES.search(re.sub(r"`[^`]*`", "``", it))]
+        self.wrong_answers = [it for it in answers if not is_about_names(it)]
 
     def why(self):
         """Returns why the function is rejected, or that it is not."""
@@ -88,6 +94,8 @@ class Verdict:
         self.has_verdict = status in (0, 1, 3) and any(lines)
         self.has_no_path = status == 2
         self.functions = []
+        lemmas = [it[1] for it in map(LEMMA_ERROR.match, self.said) if it]
+        self.wrong_lemmas = [it for it in lemmas if not is_about_names(it)]
         errors = {}
         for it in map(PROOF_ERROR.match, self.said):
             if it:
@@ -128,6 +136,8 @@ def judge(verdict, edits):
     found, strays = {}, []
     for edit in edits:
         reasons = [it.why() for it in verdict.functions if edit.changes(it)]
+        if edit.is_definition and verdict.wrong_lemmas and any(it != PROVED for it in reasons):
+            reasons.append(REFUSED)
         order = (REFUSED, NOT_TOLD, AT_LIMIT, NAMES_ONLY, NO_INVARIANT, NO_GOAL, CALLEE_ONLY, PROVED)
         found[edit] = min(reasons, key=order.index) if reasons else PROVED
     for it in verdict.functions:

@@ -1,6 +1,7 @@
 /*
- * events: tests of the log of a parser's events: where vt100_process_until stops, what the record
- * of a row contains, and what a log with a limit keeps, loses and allocates.
+ * events: tests of the log of a parser's events: where vt100_process_until and
+ * vt100_process_until_full stop, what the record of a row contains, and what a log with a limit
+ * keeps, loses and allocates.
  */
 #include "heap_refusing.h"
 #include "lines.h"
@@ -22,6 +23,14 @@ static vt100_handle made(uint16_t rows, uint16_t cols, uint16_t wanted) {
 static size_t until(vt100_handle *parser, const char *bytes) {
     size_t used = 4711;
     must(vt100_process_until(parser, (const uint8_t *)bytes, strlen(bytes), &used) == VT100_OK);
+    return used;
+}
+
+/* Processes bytes until the log is half full, and returns how many were processed. */
+static size_t until_full(vt100_handle *parser, const char *bytes) {
+    const uint8_t *start = (const uint8_t *)bytes;
+    size_t used = 4711;
+    must(vt100_process_until_full(parser, start, strlen(bytes), &used) == VT100_OK);
     return used;
 }
 
@@ -80,6 +89,83 @@ static void limits(void) {
     vt100_free(&parser);
 }
 
+/*
+ * Events gather until half of the limit is reached, here by the fourth bell: three take 51 bytes.
+ * Rows with text gather, too: each counts as 17 bytes, its text and 40 bytes for each cell.
+ */
+static void gathering(void) {
+    vt100_handle parser = made(2, 4, BELLS | ROWS);
+    must(vt100_set_event_limit(&parser, 2 * (3 * HEAD + 1)) == VT100_OK);
+    must(until_full(&parser, "a\ab\ac\a") == 6);
+    has_records(&parser, 3 * HEAD, 1);
+    must(until_full(&parser, "d\ae\a") == 2);
+    has_records(&parser, 4 * HEAD, 1);
+
+    /* The log has reached half of its limit: each event stops, until it is lost. */
+    must(until_full(&parser, "\x1b[H") == 3 && until_full(&parser, "\a\a") == 1);
+    must(until_full(&parser, "\a\a") == 1 && until_full(&parser, "\a\a") == 1);
+    has_records(&parser, 7 * HEAD, 1);
+    must(until_full(&parser, "x\ay\a") == 2);
+    has_records(&parser, 7 * HEAD, 0);
+    must(until_full(&parser, "\ax") == 2);
+    must(vt100_clear_events(&parser) == VT100_OK);
+
+    /* The second of these rows counts as 58 bytes, and the first as 17. */
+    must(until_full(&parser, "\x1b[H\x1b[J\r\nb\r\nc\r\nd\r\n") == 14);
+    has_records(&parser, 2 * HEAD + 1, 1);
+    must(vt100_clear_events(&parser) == VT100_OK);
+
+    /* A log without room loses the first event, which stops once. */
+    must(vt100_set_event_limit(&parser, 0) == VT100_OK);
+    must(until_full(&parser, "x\ay\a") == 2 && until_full(&parser, "\ax") == 2);
+    has_records(&parser, 0, 0);
+    vt100_free(&parser);
+}
+
+typedef size_t processing(vt100_handle *parser, const char *bytes);
+
+/*
+ * Processes all bytes with the given function, and takes the records out of the log after each
+ * call. Returns their total length, and stores the number of calls.
+ */
+static size_t records_of(const char *bytes, size_t limit, processing *process, uint8_t *records,
+                         size_t room, size_t *calls) {
+    vt100_handle parser = made(3, 4, 0x1fff);
+    size_t at = 0, end = 0;
+    must(vt100_set_event_limit(&parser, limit) == VT100_OK);
+    for (*calls = 0; bytes[at] != 0; (*calls)++) {
+        at += process(&parser, bytes + at);
+        must(vt100_events(&parser, &len, &is_whole) == VT100_OK && is_whole && len <= room - end);
+        must(vt100_copy_events(&parser, records + end, room - end) == len);
+        end += len;
+        must(vt100_clear_events(&parser) == VT100_OK);
+    }
+    vt100_free(&parser);
+    return end;
+}
+
+/*
+ * The records are the same, in the same order, whether events gather or not. The events count as 51
+ * bytes (three blank rows), 17 (a bell), 24, 42 (an icon name and a title), 140, 140 (two rows) and
+ * 34 bytes (two blank rows), each at another byte.
+ */
+static void same_records(void) {
+    static const char text[] =
+        "\x1b[3Sone\r\ntwo\a\r\n\x1b]2;a title\a\x1b]0;both\a\r\n\r\n\x1b[2Sx";
+    static const struct {
+        size_t limit, calls;
+    } logs[] = {{200, 4}, {400, 2}, {900, 1}, {SIZE_MAX, 1}};
+    uint8_t single[1024], gathered[1024];
+    size_t calls, count = records_of(text, 200, until, single, sizeof single, &calls);
+    must(calls == 6 && count == 3 * HEAD + HEAD + 24 + 2 * (HEAD + 4) + 2 * (HEAD + 3) + 2 * HEAD);
+    for (size_t i = 0; i < sizeof logs / sizeof *logs; i++) {
+        memset(gathered, 99, sizeof gathered);
+        size_t limit = logs[i].limit;
+        must(records_of(text, limit, until_full, gathered, sizeof gathered, &calls) == count);
+        must(calls == logs[i].calls && memcmp(single, gathered, count) == 0);
+    }
+}
+
 /* Some sequences each scroll 819 rows off, while all events are logged. */
 static void hostile(void) {
     static const char repeat[] = "\x1b[65535b";
@@ -100,6 +186,8 @@ static void hostile(void) {
 int main(void) {
     rows();
     limits();
+    gathering();
+    same_records();
     hostile();
     must(heap_live == 0);
     return 0;

@@ -17,7 +17,8 @@ enum {
     P = 1 << VT100_PARSER,
     S = 1 << VT100_SCREEN,
     M = 1 << VT100_MIRROR,
-    C = 1 << VT100_CAPTURE
+    C = 1 << VT100_CAPTURE,
+    T = 1 << VT100_CHARSETS
 };
 
 static const uint8_t *const some = (const uint8_t *)"ab";
@@ -26,6 +27,7 @@ static const uint8_t *const some = (const uint8_t *)"ab";
 static vt100_handle made(int kind) {
     vt100_handle handle = VT100_EMPTY, parser = VT100_EMPTY;
     if (kind == VT100_CAPTURE) must(vt100_capture_new(&handle) == VT100_OK);
+    if (kind == VT100_CHARSETS) must(vt100_charsets_new(&handle) == VT100_OK);
     if (kind == VT100_MIRROR) must(vt100_mirror_new(ROWS, COLS, 2, &handle) == VT100_OK);
     if (kind == VT100_PARSER) must(vt100_parser_new(ROWS, COLS, 0, 0x1fff, &handle) == VT100_OK);
     if (kind == VT100_PARSER) must(vt100_process(&handle, (const uint8_t *)"ab\a", 3) == VT100_OK);
@@ -51,6 +53,7 @@ static vt100_state state;
 
 static vt100_status process(vt100_handle *h) { return vt100_process(h, some, 2); }
 static vt100_status until(vt100_handle *h) { return vt100_process_until(h, some, 2, &len); }
+static vt100_status full(vt100_handle *h) { return vt100_process_until_full(h, some, 2, &len); }
 static vt100_status resize(vt100_handle *h) { return vt100_set_size(h, ROWS, COLS); }
 static vt100_status screen_resize(vt100_handle *h) { return vt100_screen_set_size(h, ROWS, COLS); }
 static vt100_status scrollback(vt100_handle *h) { return vt100_set_scrollback(h, 1); }
@@ -61,7 +64,18 @@ static vt100_status get_all_cells(vt100_handle *h) {
     return vt100_get_all_cells(h, all_cells, ROWS * COLS);
 }
 static vt100_status wrapped(vt100_handle *h) { return vt100_row_wrapped(h, 2, &byte); }
+static vt100_status row_cells(vt100_handle *h) {
+    return vt100_get_row_cells(h, 2, cells, COLS, &len, &byte);
+}
+static vt100_status row_contents(vt100_handle *h) { return vt100_row_contents(h, 2, &len); }
+static vt100_status ground(vt100_handle *h) { return vt100_is_ground(h, &byte); }
 static vt100_status pending(vt100_handle *h) { return vt100_pending_len(h, &len); }
+static vt100_status erasures(vt100_handle *h) {
+    uint64_t count = UNTOUCHED;
+    vt100_status status = vt100_scrollback_erasures(h, &count);
+    must(count == (status == VT100_OK ? 0 : UNTOUCHED));
+    return status;
+}
 static vt100_status steady(vt100_handle *h) { return vt100_is_steady(h, &byte); }
 static vt100_status current(vt100_handle *h) { return vt100_mirror_is_current(h, 0, &byte); }
 static vt100_status contents(vt100_handle *h) { return vt100_contents(h, &len); }
@@ -87,6 +101,10 @@ static vt100_status drawn_rows(vt100_handle *h) {
 }
 static vt100_status events(vt100_handle *h) { return vt100_events(h, &len, &byte); }
 static vt100_status limit(vt100_handle *h) { return vt100_set_event_limit(h, 99); }
+static vt100_status translate(vt100_handle *h) {
+    static uint8_t room[6];
+    return vt100_charsets_translate(h, some, 2, room, sizeof room, &len);
+}
 static vt100_status join(vt100_handle *h) { return vt100_join(h, &viewer); }
 
 static vt100_status save(vt100_handle *h) {
@@ -130,7 +148,8 @@ static const struct {
     call_of_one *call;
     int kinds;
 } of_one[] = {
-    {"process", process, P | M}, {"process_until", until, P}, {"set_size", resize, P | S | M},
+    {"process", process, P | M}, {"process_until", until, P}, {"process_until_full", full, P},
+    {"set_size", resize, P | S | M},
     {"screen_set_size", screen_resize, P | S}, {"set_scrollback", scrollback, P | S},
     {"clear_scrollback", vt100_clear_scrollback, P | S}, {"get_state", get_state, P | S},
     {"get_cell", get_cell, P | S}, {"get_cells", get_cells, P | S},
@@ -149,11 +168,15 @@ static const struct {
     {"update_with", update_with, M}, {"save", save, P | S | C},
     {"shown_copy", shown_copy, P | S}, {"is_steady", steady, P | S},
     {"mirror_is_current", current, M}, {"pending_len", pending, P},
+    {"scrollback_erasures", erasures, P},
+    {"is_ground", ground, P | M}, {"get_row_cells", row_cells, P | S},
+    {"row_contents", row_contents, P | S},
+    {"charsets_translate", translate, T},
 };
 
 static void calls_of_one(void) {
     for (size_t i = 0; i < sizeof of_one / sizeof *of_one; i++) {
-        for (int kind = VT100_NONE; kind <= VT100_CAPTURE; kind++) {
+        for (int kind = VT100_NONE; kind <= VT100_CHARSETS; kind++) {
             vt100_handle handle = kind == VT100_NONE ? (vt100_handle)VT100_EMPTY : made(kind);
             vt100_status wanted = kind == VT100_NONE ? VT100_NO_OBJECT
                 : (of_one[i].kinds >> kind & 1) != 0 ? VT100_OK
@@ -161,7 +184,7 @@ static void calls_of_one(void) {
             len = UNTOUCHED;
             byte = 99;
             vt100_status status = of_one[i].call(&handle);
-            size_t kept = of_one[i].call == until ? 0 : UNTOUCHED;
+            size_t kept = of_one[i].call == until || of_one[i].call == full ? 0 : UNTOUCHED;
             int is_right =
                 status == wanted && (status == VT100_OK || (len == kept && byte == 99));
             if (!is_right) printf("%s of kind %d: %u, %zu\n", of_one[i].name, kind, status, len);
@@ -240,8 +263,8 @@ static void call_of_kinds(size_t i, int kind, int other) {
 
 static void calls_of_two(void) {
     for (size_t i = 0; i < sizeof of_two / sizeof *of_two; i++) {
-        for (int kind = VT100_NONE; kind <= VT100_CAPTURE; kind++) {
-            for (int other = VT100_NONE; other <= VT100_CAPTURE; other++) {
+        for (int kind = VT100_NONE; kind <= VT100_CHARSETS; kind++) {
+            for (int other = VT100_NONE; other <= VT100_CHARSETS; other++) {
                 call_of_kinds(i, kind, other);
             }
         }
@@ -273,6 +296,7 @@ static void making(void) {
     must(vt100_parser_new(ROWS, COLS, 0, 0, &handle) == VT100_IN_USE);
     must(vt100_mirror_new(ROWS, COLS, 0, &handle) == VT100_IN_USE);
     must(vt100_capture_new(&handle) == VT100_IN_USE);
+    must(vt100_charsets_new(&handle) == VT100_IN_USE);
     must(vt100_save(&screen, &handle) == VT100_IN_USE && handle.at == at);
     must(vt100_shown_copy(&screen, &handle) == VT100_IN_USE && handle.at == at);
     must(vt100_parser_new(0, COLS, 0, 0, &empty) == VT100_BAD_ARGUMENT);
@@ -338,6 +362,8 @@ static void null(void) {
     size_t start = UNTOUCHED, end = UNTOUCHED;
     must(vt100_process(&parser, NULL, 0) == VT100_OK);
     must(vt100_process_until(&parser, NULL, 0, &len) == VT100_OK && len == 0);
+    len = UNTOUCHED;
+    must(vt100_process_until_full(&parser, NULL, 0, &len) == VT100_OK && len == 0);
     must(vt100_get_cells(&parser, 0, NULL, 0) == VT100_BAD_ARGUMENT);
     must(vt100_get_all_cells(&parser, NULL, 0) == VT100_BAD_ARGUMENT);
     must(vt100_rows(&parser, 0, 1, NULL, 0, &len) == VT100_BAD_ARGUMENT);
@@ -386,11 +412,18 @@ static void log_of(void) {
     vt100_free(&parser);
 }
 
-/* Checks that each status has a text of its own, and that all other numbers have the same text. */
+/*
+ * Checks that each status has a text of its own, with a word from its description in the header, and
+ * that all other numbers have the same text.
+ */
 static void names(void) {
+    static const char *const words[] = {
+        "done", "out of memory", "earlier call", "bad argument", "kind", "sizes", "is empty",
+        "not empty", "no viewer numbers"
+    };
     for (unsigned first = 0; first <= VT100_NO_NUMBER; first++) {
         const char *text = vt100_status_text((vt100_status)first);
-        must(text[0] != 0);
+        must(strstr(text, words[first]) != NULL);
         for (unsigned other = first + 1; other <= VT100_NO_NUMBER + 1; other++) {
             must(strcmp(text, vt100_status_text((vt100_status)other)) != 0);
         }

@@ -29,10 +29,27 @@ static const char *const begun =
 static const char *const going_on =
     "\x1b]52;c;YWI=\a\r\n6\r\n7\r\n8\r\n\x1b[?1049h\x1b[2Jalternate\r\n\n\n\n\x1b[?1049lback"
     "\x1b[7;8z"
-    "\x1b[2;3Hx\x1b[1;3r\x1b[3;1Hone more row, longer than the others are\r\n\n\x1b]9;a;b\x1b\\";
+    "\x1b[3J\x1b[2;3Hx\x1b[1;3r\x1b[3;1Hone more row, longer than the others are\r\n\n\x1b]9;a;b\x1b\\";
 
 static vt100_status read_into(vt100_handle *handle, const char *bytes) {
     return vt100_process(handle, (const uint8_t *)bytes, strlen(bytes));
+}
+
+/* Lets events gather in the log, which has room for all of them. Only a lost event stops. */
+static vt100_status gather_from(const char *bytes) {
+    const uint8_t *at = (const uint8_t *)bytes;
+    size_t used = UNTOUCHED, recorded;
+    uint8_t is_whole;
+    for (size_t len = strlen(bytes); len > 0; at += used, len -= used) {
+        vt100_status status = vt100_process_until_full(&parser, at, len, &used);
+        if (status != VT100_OK) {
+            must(used < len);
+            return status;
+        }
+        must(vt100_events(&parser, &recorded, &is_whole) == VT100_OK);
+        must(used > 0 && (used == len || (used < len && !is_whole)));
+    }
+    return VT100_OK;
 }
 
 /* ---- the call of a step, which stores the length of the text that it generates */
@@ -81,7 +98,7 @@ static vt100_status call(int step, size_t *len) {
     case 4: return vt100_update(&mirror, viewer, &rows, &cols, len);
     case 5: return read_into(&parser, begun);
     case 6: return vt100_save(&parser, &saved);
-    case 7: return read_into(&parser, going_on);
+    case 7: return gather_from(going_on);
     case 8: return read_into(&mirror, begun);
     case 9: return vt100_update_scrolling(&mirror, viewer, &rows, &cols, len);
     case 26: return vt100_capture_row(&parser, 0, &capture, len);
@@ -93,7 +110,8 @@ static vt100_status call(int step, size_t *len) {
     case 32: return vt100_set_size(&mirror, 2, 3);
     case 33: return vt100_update(&mirror, viewer, &rows, &cols, len);
     case 34: return vt100_leave(&mirror, viewer);
-    default: return vt100_shown_copy(&parser, &copied);
+    case 35: return vt100_shown_copy(&parser, &copied);
+    default: return vt100_row_contents(&parser, 1, len);
     }
 }
 
@@ -103,7 +121,8 @@ static vt100_handle *handle_of(int step) {
 }
 
 static int makes_text(int step) {
-    return step == 4 || step == 9 || (step >= 10 && step < 28) || step == 33;
+    return step == 4 || step == 9 || (step >= 10 && step < 28) || step == 33
+        || step == 36;
 }
 
 /* Returns the observable state of all objects. No allocation fails in this function. */
@@ -116,6 +135,9 @@ static struct text shown(void) {
         add_size(&text, &parser);
         add_picture(&text, &parser);
         add_modes(&text, &parser);
+        uint64_t count = UNTOUCHED;
+        must(vt100_scrollback_erasures(&parser, &count) == VT100_OK);
+        add(&text, "erasures %u\n", (unsigned)count);
     }
     if (vt100_kind(&saved) != VT100_NONE) add_picture(&text, &saved);
     if (vt100_kind(&copied) != VT100_NONE) add_picture(&text, &copied);
@@ -207,7 +229,7 @@ static void run(void) {
     parser_failed = mirror_failed = 0;
     long gaps_before = gaps;
     gaps = 0;
-    for (int step = 0; step < 36; step++) {
+    for (int step = 0; step < 37; step++) {
         take(step);
         if (step == 7) look_at_log();
     }

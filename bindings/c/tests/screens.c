@@ -1,6 +1,7 @@
 /*
  * screens: tests of the cells of all rows, of whether a screen is steady, of copies of what a screen
- * displays, of whether a viewer is up to date, of unfinished commands, and of the version.
+ * displays, of whether a viewer is up to date, of unfinished commands and sequences, of the rows that
+ * a screen keeps, and of the version.
  */
 #include "heap_refusing.h"
 #include "lines.h"
@@ -259,7 +260,7 @@ static void repeated_ascii(void) {
 /* A portable update, redraw or diff, resets the attributes between dim and bold. */
 static void portable_updates(void) {
     vt100_handle mirror = VT100_EMPTY;
-    uint64_t first, second;
+    uint64_t first = 0, second = 0;
     uint16_t rows, cols;
     size_t len;
     must(vt100_mirror_new(2, 20, 0, &mirror) == VT100_OK);
@@ -370,6 +371,125 @@ static void pending(void) {
     vt100_free(&parser);
 }
 
+/*
+ * A parser and a mirror are in ground state where no character, sequence or string is half read, however
+ * it is ended: by its last byte, CAN, another ESC, or a byte that no character goes on with.
+ */
+static void ground(void) {
+    static const struct {
+        const char *bytes;
+        uint8_t is;
+    } steps[] = {
+        {"ab", 1}, {"\x1b", 0}, {"[", 0}, {"31", 0}, {"\n", 0}, {";1", 0}, {"m", 1},
+        {"\x1b(", 0}, {"B", 1}, {"\x1b[?25", 0}, {"\x18", 1}, {"\x1b[1", 0}, {"\x1b", 0}, {"7", 1},
+        {"\x1b]0;title", 0}, {"\a", 1}, {"\x1b]0;title\x1b", 0}, {"\\", 1}, {"\x1bPdata", 0},
+        {"\x9c", 0}, {"\x1b\\", 1}, {"\x1b_apc\x1a", 1}, {"\xe2", 0}, {"\x8c", 0}, {"\x9a", 1},
+        {"\xf0\x9f", 0}, {"x", 1}, {"\xe2\x8c", 0}, {"\x1b", 0}, {"c", 1}, {"\xff", 1}, {"", 1},
+    };
+    vt100_handle parser = made(2, 4, 0), mirror = VT100_EMPTY;
+    must(vt100_mirror_new(2, 4, 0, &mirror) == VT100_OK);
+    must(vt100_is_ground(&parser, &answer) == VT100_OK && answer == 1);
+    must(vt100_is_ground(&mirror, &answer) == VT100_OK && answer == 1);
+    for (size_t i = 0; i < sizeof steps / sizeof *steps; i++) {
+        read_into(&parser, steps[i].bytes);
+        read_into(&mirror, steps[i].bytes);
+        answer = 9;
+        must(vt100_is_ground(&parser, &answer) == VT100_OK && answer == steps[i].is);
+        answer = 9;
+        must(vt100_is_ground(&mirror, &answer) == VT100_OK && answer == steps[i].is);
+    }
+    vt100_free(&parser);
+    vt100_free(&mirror);
+}
+
+/*
+ * RIS and ED 3 are counted, also with a private marker, leading zeros or more parameters, on the
+ * alternate screen, and with nothing to erase; each when its last byte is processed. Others are not.
+ */
+static void erasures(void) {
+    static const struct {
+        const char *bytes;
+        uint64_t count;
+    } steps[] = {
+        {"a\r\nb\r\nc\r\n", 0}, {"\x1b[3", 0}, {"J", 1}, {"\x1b[?3J", 2}, {"\x1b[0003;1J", 3},
+        {"\x1b[3:9J", 4}, {"\x1b", 4}, {"c", 5}, {"\x1b[3J\x1b[3J\x1b" "c", 8}, {"\x1b[?1049h\x1b[3J", 9},
+        {"\x1b[J\x1b[0J\x1b[1J\x1b[2J\x1b[4J\x1b[33J\x1b[;3J\x1b[3K\x1b[3j", 9},
+        {"\x1b[>3J\x1b[3 J\x1b[!3J\x1b(c\x1b[c\x1b[3\x18J", 9}, {"\x1b]0;\x1b[3J", 10},
+        {"\x1bP\x1b[3J", 11}, {"\x1bP3Jc\x1b\\c[3J", 11}, {"\xe2\x8c\x1b[3\nJ", 12},
+    };
+    uint64_t count = 99;
+    vt100_handle parser = made(2, 4, 9);
+    must(vt100_scrollback_erasures(&parser, &count) == VT100_OK && count == 0);
+    for (size_t i = 0; i < sizeof steps / sizeof *steps; i++) {
+        read_into(&parser, steps[i].bytes);
+        must(vt100_scrollback_erasures(&parser, &count) == VT100_OK && count == steps[i].count);
+    }
+    must(vt100_clear_scrollback(&parser) == VT100_OK && vt100_set_size(&parser, 3, 5) == VT100_OK);
+    must(vt100_scrollback_erasures(&parser, &count) == VT100_OK && count == 12);
+    vt100_free(&parser);
+}
+
+/* What a kept row must be: its text, its number of cells, and whether it is wrapped. */
+struct kept {
+    const char *text;
+    size_t count;
+    uint8_t wrapped;
+};
+
+/* Checks the rows that a screen keeps, with room for each number of cells up to one more than needed. */
+static void has_kept(vt100_handle *handle, const struct kept *kept, size_t count) {
+    vt100_cell cells[8];
+    size_t len = 99;
+    for (size_t row = 0; row < count; row++) {
+        for (size_t room = 0; room <= kept[row].count + 1; room++) {
+            uint8_t wrapped = 9;
+            size_t stored = room < kept[row].count ? room : kept[row].count, at = 0;
+            memset(cells, 0xaa, sizeof cells);
+            must(vt100_get_row_cells(handle, row, cells, room, &len, &wrapped) == VT100_OK);
+            must(len == kept[row].count && wrapped == kept[row].wrapped);
+            for (size_t col = 0; col < stored; col++) {
+                must(strncmp(kept[row].text + at, (char *)cells[col].text, cells[col].len) == 0);
+                at += cells[col].len;
+            }
+            if (stored == len) must(at == strlen(kept[row].text));
+            must(((uint8_t *)&cells[stored])[0] == 0xaa && cells[stored].len == 0xaa);
+        }
+        must(vt100_row_contents(handle, row, &len) == VT100_OK && is_text(handle, len, kept[row].text));
+    }
+    must(vt100_get_row_cells(handle, count, cells, 8, &len, &answer) == VT100_BAD_ARGUMENT);
+    must(vt100_get_row_cells(handle, SIZE_MAX, cells, 8, &len, &answer) == VT100_BAD_ARGUMENT);
+    must(vt100_row_contents(handle, count, &len) == VT100_BAD_ARGUMENT);
+}
+
+/*
+ * The rows of scrollback are read without displaying them, and without their blank cells; those of the
+ * page come after them, whether scrollback is displayed or not. The alternate page has no others.
+ */
+static void kept_rows(void) {
+    static const struct kept main_rows[] = {
+        {"ab", 2, 0}, {"wxyz", 4, 1}, {"\xe4\xb8\xad!", 3, 0}, {"", 0, 0}, {"cd", 4, 0}, {"e", 4, 0},
+    };
+    static const struct kept displayed[] = {
+        {"ab", 2, 0}, {"wxyz", 4, 1}, {"\xe4\xb8\xad!", 4, 0}, {"", 4, 0}, {"cd", 4, 0}, {"e", 4, 0},
+    };
+    static const struct kept alternate[] = {{"page", 4, 0}, {"", 4, 0}};
+    vt100_handle parser = made(2, 4, 9), copy = VT100_EMPTY;
+    read_into(&parser, "ab\r\nwxyz\xe4\xb8\xad!\r\n\r\ncd\r\ne");
+    has_kept(&parser, main_rows, 6);
+    must(has_contents(&parser, "cd\ne"));
+    must(vt100_save(&parser, &copy) == VT100_OK);
+    must(vt100_set_scrollback(&parser, 2) == VT100_OK);
+    has_kept(&parser, displayed, 6);
+    must(has_contents(&parser, "\xe4\xb8\xad!"));
+    has_kept(&copy, main_rows, 6);
+    read_into(&parser, "\x1b[?1049h\x1b[Hpage");
+    has_kept(&parser, alternate, 2);
+    read_into(&parser, "\x1b[?1049l");
+    has_kept(&parser, displayed, 6);
+    vt100_free(&parser);
+    vt100_free(&copy);
+}
+
 /* The sequences for real terminals select the full scroll region, and reset all input modes. */
 static void terminals(void) {
     static const char *const modes[] = {"9", "1000", "1002", "1003", "1005", "1006"};
@@ -379,6 +499,8 @@ static void terminals(void) {
     read_into(&parser, "ab\x1b[2;3r\x1b[?6h\x1b]2;title" VT100_TERMINAL_SETUP);
     read_into(&parser, "cd\x1b[3;1H\n");
     must(has_contents(&parser, ""));
+    must(strstr(VT100_TERMINAL_SETUP, "\x1b[?2026l\x1b[?42l") != NULL);
+    must(strstr(VT100_TERMINAL_SETUP, "\x1b[8h\x1b[0 k") != NULL);
     read_into(&parser, "\x1b[H");
     for (size_t i = 0; i < sizeof modes / sizeof *modes; i++) {
         snprintf(mode, sizeof mode, "\x1b[?%sh", modes[i]);
@@ -409,6 +531,9 @@ int main(void) {
     state_with_options();
     portable_updates();
     pending();
+    ground();
+    erasures();
+    kept_rows();
     terminals();
     version();
     must(heap_live == 0);

@@ -1,6 +1,6 @@
 // Errors, and checks of arguments.
 
-const OUT_OF_MEMORY = 1;
+export const OUT_OF_MEMORY = 1;
 const BAD_ARGUMENT = 3;
 export const NO_OBJECT = 6;
 
@@ -51,8 +51,9 @@ export function inU16(name, value) {
   return inRange(name, value, 0, MAX_U16);
 }
 
-/** Returns whether `value` can be a row or a column. */
-export function isU16(value) {
+/** Returns whether `value`, which must be a number, can be a row or a column. */
+export function isU16(name, value) {
+  if (typeof value !== "number") throw new TypeError(`${name} must be a number, not ${typeof value}`);
   return Number.isInteger(value) && value >= 0 && value <= MAX_U16;
 }
 
@@ -63,8 +64,45 @@ export function sizeInRange(rows, cols) {
 
 /** Returns a number of rows of scrollback as a bigint. Infinity, and any number that is not exact, means all rows. */
 export function rowCount(name, value) {
-  const count = value > Number.MAX_SAFE_INTEGER ? Number.MAX_SAFE_INTEGER : value;
-  return BigInt(inRange(name, count, 0, Number.MAX_SAFE_INTEGER));
+  const isLarge = typeof value === "number" && value > Number.MAX_SAFE_INTEGER;
+  return BigInt(inRange(name, isLarge ? Number.MAX_SAFE_INTEGER : value, 0, Number.MAX_SAFE_INTEGER));
+}
+
+/** Returns `options` if it is an object all of whose own properties are among `names`. */
+export function optionsAmong(names, options) {
+  if (typeof options !== "object" || options === null) {
+    throw new TypeError(`the options must be an object, not ${options === null ? "null" : typeof options}`);
+  }
+  const unknown = Object.keys(options).find((name) => !names.includes(name));
+  if (unknown !== undefined) throw new TypeError(`there is no option ${unknown}, only ${names.join(", ")}`);
+  return options;
+}
+
+/** Returns `value` if it is a boolean. */
+export function booleanOf(name, value) {
+  if (typeof value !== "boolean") throw new TypeError(`${name} must be a boolean, not ${typeof value}`);
+  return value;
+}
+
+/** Returns `value` if it is a finite number that is greater than 0. */
+export function positive(name, value) {
+  if (typeof value !== "number") throw new TypeError(`${name} must be a number, not ${typeof value}`);
+  if (!(value > 0 && value < Infinity)) throw new RangeError(`${name} must be positive, not ${value}`);
+  return value;
+}
+
+/** Returns `value` if it is a number that is not negative. */
+export function notNegative(name, value) {
+  if (typeof value !== "number") throw new TypeError(`${name} must be a number, not ${typeof value}`);
+  if (!(value >= 0)) throw new RangeError(`${name} must not be negative, and not ${value}`);
+  return value;
+}
+
+/** Returns `value` if it is among `values`, which are strings. */
+export function oneOf(name, value, values) {
+  if (typeof value !== "string") throw new TypeError(`${name} must be a string, not ${typeof value}`);
+  if (!values.includes(value)) throw new RangeError(`${name} must be one of ${values.join(", ")}, not ${value}`);
+  return value;
 }
 
 /** Returns `viewer` if it can be the number of a viewer. */

@@ -27,27 +27,100 @@ const TEXT = 17;
 /** What a record of an intermediate byte holds if there is none. */
 const NO_BYTE = 256;
 
-/** Returns the bits of the kinds of events for which there are callbacks. */
-export function wantedBy(callbacks) {
-  return NAMES.reduce((bits, name, kind) => (callbacks?.[name] === undefined ? bits : bits | (1 << kind)), 0);
+/** The properties that hold the text of the last event of a kind. */
+const TITLES = { 3: "iconName", 4: "title" };
+
+/** The bits of the events that set titles, of those that text and SGR sequences can cause, and of those for rows. */
+export const TITLE_EVENTS = (1 << 3) | (1 << 4), TEXT_EVENTS = (1 << 7) | (1 << 10), ROW_EVENTS = 1 << 12;
+
+/** The callback that is invoked for lost events, for which there is no record. */
+const LOST = "eventsLost";
+
+/** Returns the bits of the kinds of events for which there are callbacks, each of which must be a function. */
+export function wantedBy(callbacks = {}) {
+  if (typeof callbacks !== "object" || callbacks === null) throw new TypeError("callbacks must be an object");
+  for (const name of [...NAMES, LOST]) {
+    const type = typeof callbacks[name];
+    if (type !== "function" && type !== "undefined") throw new TypeError(`the callback ${name} is not a function`);
+  }
+  // Objects may have members of their own, but a function that is never called is a misspelt callback.
+  const misspelt = Object.keys(callbacks).find(
+    (name) => typeof callbacks[name] === "function" && name !== LOST && !NAMES.includes(name),
+  );
+  if (misspelt !== undefined) throw new TypeError(`there is no callback ${misspelt}`);
+  return NAMES.reduce((bits, name, kind) => (callbacks[name] === undefined ? bits : bits | (1 << kind)), 0);
 }
 
-/** Invokes the callbacks for the records of a log, in order. */
-export function report(log, callbacks, screen) {
-  const view = new DataView(log.buffer, log.byteOffset, log.byteLength);
-  for (let at = 0; at < log.length; ) {
-    const end = at + TEXT + wordOf(view, at + LENGTH);
-    const event = new Event(log, view, at, end);
-    const name = NAMES[log[at]];
-    if (callbacks[name] !== undefined) callbacks[name](...READERS[name](event, screen));
-    at = end;
+/** The kind of the events for rows, which are reported together. */
+const ON_SCROLL = NAMES.indexOf("onScroll");
+
+/** The texts of the rows in a log, which are decoded when the first one is read. */
+class RowTexts {
+  #bytes;
+  #all;
+
+  constructor(bytes) {
+    this.#bytes = bytes;
+  }
+
+  textOf(start, end) {
+    this.#all ??= textOf(this.#bytes, 0, this.#bytes.length);
+    // If the log is as long as text as it is in bytes, each byte is a unit of the text: no row has any but ASCII characters.
+    if (this.#all.length === this.#bytes.length) return this.#all.slice(start, end);
+    return textOf(this.#bytes, start, end - start);
   }
 }
 
-/** A record of an event. */
+/** A row that scrolled off. */
+class ScrolledRow {
+  #texts;
+  #start;
+  #end;
+
+  constructor(texts, start, end, wrapped, alternateScreen) {
+    this.#texts = texts;
+    this.#start = start;
+    this.#end = end;
+    this.wrapped = wrapped;
+    this.alternateScreen = alternateScreen;
+  }
+
+  get text() {
+    return this.#texts.textOf(this.#start, this.#end);
+  }
+
+  toJSON() {
+    const { text, wrapped, alternateScreen } = this;
+    return { text, wrapped, alternateScreen };
+  }
+}
+
+/**
+ * Returns the names and the arguments of the callbacks for the records of a log. The argument of onScroll is an array of
+ * all rows: no callbacks are invoked for other events between them. Stores titles in `titles`.
+ */
+export function eventsIn(log, screen, titles) {
+  const events = [], view = new DataView(log.buffer), texts = new RowTexts(log);
+  let rows = null;
+  for (let at = 0; at < log.length; ) {
+    const kind = log[at], start = at + TEXT, end = start + wordOf(view, at + LENGTH);
+    if (kind === ON_SCROLL) {
+      if (rows === null) events.push(["onScroll", [(rows = [])]]);
+      rows.push(new ScrolledRow(texts, start, end, log[at + NUMBERS + 4] === 1, log[at + NUMBERS] === 1));
+    } else {
+      const event = new Event(log, view, at, end), name = NAMES[kind];
+      if (TITLES[kind] !== undefined) titles[TITLES[kind]] = event.text;
+      events.push([name, READERS[name](event, screen)]);
+    }
+    at = end;
+  }
+  return events;
+}
+
+/** A record of an event, in the bytes from `at` up to but excluding `end`. */
 class Event {
-  constructor(log, view, at, end) {
-    this.log = log;
+  constructor(bytes, view, at, end) {
+    this.memory = bytes;
     this.view = view;
     this.start = at + TEXT;
     this.end = end;
@@ -56,11 +129,11 @@ class Event {
   }
 
   get bytes() {
-    return this.log.slice(this.start, this.end);
+    return this.memory.slice(this.start, this.end);
   }
 
   get text() {
-    return textOf(this.log, this.start, this.end - this.start);
+    return textOf(this.memory, this.start, this.end - this.start);
   }
 
   /** Returns the two intermediate bytes of a sequence, with null for a missing one. */
@@ -74,7 +147,7 @@ class Event {
     for (let at = this.start; at < this.end; ) {
       const start = at + 8;
       at = start + wordOf(this.view, at);
-      parts.push(this.log.slice(start, at));
+      parts.push(this.memory.slice(start, at));
     }
     return parts;
   }
@@ -97,7 +170,7 @@ class Event {
   }
 }
 
-/** The arguments of each callback. */
+/** The arguments of each callback but onScroll. */
 const READERS = {
   audibleBell: (_, screen) => [screen],
   visualBell: (_, screen) => [screen],
@@ -111,5 +184,4 @@ const READERS = {
   unhandledEscape: (event, screen) => [screen, ...event.intermediates, event.bytes[0]],
   unhandledCsi: (event, screen) => [screen, ...event.intermediates, event.groups, event.final],
   unhandledOsc: (event, screen) => [screen, event.parts],
-  onScroll: (event) => [event.text, event.second === 1, event.first === 1],
 };

@@ -1,6 +1,6 @@
 // The base class of all objects of the library.
 
-import { NO_OBJECT, Vt100Error, errorOf } from "./errors.js";
+import { NO_OBJECT, Vt100Error } from "./errors.js";
 import { Instance, textOf } from "./instance.js";
 
 const DISPOSE = Symbol.dispose ?? Symbol.for("Symbol.dispose");
@@ -16,11 +16,11 @@ export class Handle {
       throw new TypeError(`${new.target.name}() makes no object: make a Parser or a Mirror, or save() a Screen`);
     }
     const slot = instance.newSlot();
-    const status = make(slot);
-    instance.renew();
-    if (status !== 0) {
-      instance.release(slot);
-      throw errorOf(status);
+    try {
+      instance.check(make(slot));
+    } catch (error) {
+      instance.freeSlot(slot);
+      throw error;
     }
     this.#instance = instance;
     this.#slot = slot;

@@ -1,6 +1,7 @@
 // The memory and the functions of one instance of the module.
 
 import { errorOf, outOfMemory } from "./errors.js";
+import { Guard } from "./guard.js";
 
 /** The number of bytes that every call may use for its input and output. */
 export const ROOM = 65536;
@@ -24,12 +25,17 @@ export function wordOf(view, at) {
   return view.getUint32(at, true) + view.getUint32(at + 4, true) * 0x100000000;
 }
 
+/** Returns whether `data` is an ArrayBuffer, which may be that of another realm, such as a frame. */
+export function isArrayBuffer(data) {
+  return data instanceof ArrayBuffer || Object.prototype.toString.call(data) === "[object ArrayBuffer]";
+}
+
 /** Returns the bytes that `process` was given, or undefined for a string. */
 export function bytesOf(data) {
   if (typeof data === "string") return undefined;
   if (data instanceof Uint8Array) return data;
   if (ArrayBuffer.isView(data)) return new Uint8Array(data.buffer, data.byteOffset, data.byteLength);
-  if (data instanceof ArrayBuffer) return new Uint8Array(data);
+  if (isArrayBuffer(data)) return new Uint8Array(data);
   throw new TypeError("data must be a string, a Uint8Array or other view, or an ArrayBuffer");
 }
 
@@ -42,15 +48,17 @@ export function bytesOf(data) {
  */
 export class Instance {
   constructor(exports) {
-    this.library = exports;
+    const guard = new Guard(exports);
+    this.library = guard.functions;
     this.memory = exports.memory;
     this.bytes = new Uint8Array(0);
     this.renew();
-    // Calls store their results here: a length, a flag, a number of rows or columns, or a viewer.
+    // Calls store their results here: a length, a flag, a number of rows or columns, a viewer, or a state of 56 bytes.
     this.results = this.allocate(RESULTS_SIZE);
     this.first = BigInt(this.results);
     this.second = this.first + 8n;
     this.third = this.first + 16n;
+    guard.emptyHandle = this.newSlot();
     this.room = this.allocate(ROOM);
     this.roomPointer = BigInt(this.room);
     this.registry = new FinalizationRegistry((slot) => this.freeSlot(slot));
@@ -120,21 +128,21 @@ export class Instance {
     }
   }
 
-  /** Puts data into the room, one chunk at a time, and calls `take` with the number of bytes of each. */
-  inChunks(data, take) {
+  /** Puts data into the room, at most `size` bytes at a time, and calls `take` with the number of bytes each time. */
+  inChunks(data, take, size = ROOM) {
     const source = bytesOf(data);
-    if (source === undefined) return this.#textInChunks(data, take);
-    for (let at = 0; at < source.length; at += ROOM) {
-      const chunk = source.subarray(at, at + ROOM);
+    if (source === undefined) return this.#textInChunks(data, take, size);
+    for (let at = 0; at < source.length; at += size) {
+      const chunk = source.subarray(at, at + size);
       this.bytes.set(chunk, this.room);
       take(chunk.length);
     }
   }
 
-  #textInChunks(text, take) {
+  #textInChunks(text, take, size) {
     for (let at = 0; at < text.length; ) {
       // encodeInto stops before a surrogate pair that does not fit.
-      const target = this.bytes.subarray(this.room, this.room + ROOM);
+      const target = this.bytes.subarray(this.room, this.room + size);
       const { read, written } = encoder.encodeInto(at === 0 ? text : text.slice(at), target);
       at += read;
       take(written);

@@ -1,19 +1,25 @@
 // Mirrors: a terminal and its viewers.
 
-import { rowCount, sizeInRange, viewerInRange } from "./errors.js";
+import { optionsAmong, rowCount, sizeInRange, viewerInRange } from "./errors.js";
 import { Handle } from "./handle.js";
 import { diffOptions } from "./options.js";
 
 /** A terminal that remembers, for each of its viewers, the screen of the last update. */
 export class Mirror extends Handle {
-  constructor(instance, rows = 24, cols = 80, { scrollback = 0 } = {}) {
+  constructor(instance, rows = 24, cols = 80, options = {}) {
     const size = sizeInRange(rows, cols);
+    const { scrollback = 0 } = optionsAmong(["scrollback"], options);
     const capacity = rowCount("scrollback", scrollback);
     super(instance, (out) => instance.library.vt100_mirror_new(...size, capacity, out));
   }
 
   process(data) {
     this._process(data);
+  }
+
+  get isGround() {
+    this.#call("vt100_is_ground", this._instance.first);
+    return this._instance.flag;
   }
 
   setSize(rows, cols) {

@@ -5,9 +5,6 @@ import { textOf, wordOf } from "./instance.js";
 /** The size of a cell's record in bytes. */
 export const CELL_SIZE = 40;
 
-/** The size of a state's record in bytes. */
-export const STATE_SIZE = 56;
-
 const BOLD = 1;
 const DIM = 2;
 const ITALIC = 4;

@@ -1,13 +1,24 @@
 // Screens.
 
 import { inU16, isU16, rowCount, sizeInRange } from "./errors.js";
+import { patternOf, placesOf } from "./find.js";
 import { Handle } from "./handle.js";
-import { textOf, wordOf } from "./instance.js";
+import { History } from "./history.js";
+import { ROOM, textOf, wordOf } from "./instance.js";
+import { htmlOf, svgOf } from "./markup.js";
 import { diffOptions, redrawOptions } from "./options.js";
-import { CELL_SIZE, Cell, PROPERTIES, STATE_SIZE, cellsOf, stateOf } from "./records.js";
+import { CELL_SIZE, Cell, PROPERTIES, cellsOf, stateOf } from "./records.js";
 
 const BAD_ARGUMENT = 3;
 const MAX_WIDTH = 0xffff;
+
+/** Returns `out`, to which the records are copied, or a copy of them if it is undefined. */
+function copyTo(out, records) {
+  if (out === undefined) return records.slice();
+  if (!(out instanceof Uint8Array)) throw new TypeError("the records are copied to a Uint8Array only");
+  out.set(records);
+  return out;
+}
 
 /** A screen, which belongs to a parser or is a copy of one. */
 export class Screen extends Handle {
@@ -40,11 +51,9 @@ export class Screen extends Handle {
   }
 
   get state() {
-    const instance = this._instance;
-    return instance.withRoom(STATE_SIZE, (at) => {
-      instance.check(instance.library.vt100_get_state(this._at, BigInt(at)));
-      return stateOf(instance.bytes, instance.view, at);
-    });
+    // Not in the room, which may hold input that is not parsed yet.
+    this.#call("vt100_get_state", this._instance.first);
+    return stateOf(this._instance.bytes, this._instance.view, this._instance.results);
   }
 
   get size() {
@@ -60,7 +69,8 @@ export class Screen extends Handle {
   cell(row, col) {
     const instance = this._instance;
     const at = this._at;
-    if (!isU16(row) || !isU16(col)) return undefined;
+    const isCell = isU16("row", row) && isU16("col", col);
+    if (!isCell) return undefined;
     const status = instance.library.vt100_get_cell(at, row, col, instance.roomPointer);
     if (status === BAD_ARGUMENT) return undefined;
     instance.check(status);
@@ -72,12 +82,7 @@ export class Screen extends Handle {
   }
 
   rowBytes(row, out) {
-    return this.#withRow(row, this.size.cols, (bytes, at, cols) => {
-      const records = bytes.subarray(at, at + CELL_SIZE * cols);
-      if (out === undefined) return records.slice();
-      out.set(records);
-      return out;
-    });
+    return this.#withRow(row, this.size.cols, (bytes, at, cols) => copyTo(out, bytes.subarray(at, at + CELL_SIZE * cols)));
   }
 
   allCells() {
@@ -89,12 +94,7 @@ export class Screen extends Handle {
 
   allBytes(out) {
     const { rows, cols } = this.size;
-    return this.#withAll(rows, cols, (bytes, at) => {
-      const records = bytes.subarray(at, at + CELL_SIZE * rows * cols);
-      if (out === undefined) return records.slice();
-      out.set(records);
-      return out;
-    });
+    return this.#withAll(rows, cols, (bytes, at) => copyTo(out, bytes.subarray(at, at + CELL_SIZE * rows * cols)));
   }
 
   /** Returns what `use` returns for the memory and the address of the records of all rows. */
@@ -148,6 +148,25 @@ export class Screen extends Handle {
     return this._instance.flag;
   }
 
+  get history() {
+    return new History(this);
+  }
+
+  keptRow(row) {
+    const instance = this._instance;
+    const index = rowCount("row", row);
+    const read = (room) => (at) => {
+      const out = [BigInt(at), BigInt(room), instance.first, instance.second];
+      const status = instance.library.vt100_get_row_cells(this._at, index, ...out);
+      if (status === BAD_ARGUMENT) return undefined;
+      instance.check(status);
+      const count = instance.word;
+      if (count > room) return instance.withRoom(CELL_SIZE * count, read(count));
+      return { cells: cellsOf(instance.bytes, at, count), wrapped: instance.bytes[instance.results + 8] === 1 };
+    };
+    return instance.withRoom(ROOM, read(Math.floor(ROOM / CELL_SIZE)));
+  }
+
   isSteady() {
     this.#call("vt100_is_steady", this._instance.first);
     return this._instance.flag;
@@ -165,8 +184,28 @@ export class Screen extends Handle {
     return this.#textBy("vt100_contents_between", ...start, ...end);
   }
 
+  keptText(row) {
+    const instance = this._instance;
+    const status = instance.library.vt100_row_contents(this._at, rowCount("row", row), instance.first);
+    return status === BAD_ARGUMENT ? undefined : this._text(status);
+  }
+
   rows(start = 0, width = MAX_WIDTH) {
     return this.#rowTexts("vt100_rows", [], start, width);
+  }
+
+  find(text) {
+    const pattern = patternOf(text), { rows, cols } = this.size;
+    const wrapped = Array.from({ length: rows }, (_, row) => this.rowWrapped(row));
+    return placesOf(pattern, this.rows(0, cols), wrapped, (row) => this.cells(row));
+  }
+
+  toHtml(options) {
+    return htmlOf(this, options);
+  }
+
+  toSvg(options) {
+    return svgOf(this, options);
   }
 
   // Escape sequences

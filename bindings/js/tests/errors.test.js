@@ -48,7 +48,33 @@ test("arguments of the wrong type", () => {
   const mirror = new Mirror();
   const wrong = [
     () => new Parser("24", 80),
+    () => new Parser(24, 80, 1000),
+    () => new Parser(24, 80, null),
+    () => new Parser(24, 80, { scrolback: 5 }),
     () => new Parser(24, 80, { scrollback: 5n }),
+    () => new Parser(24, 80, { scrollback: 2n ** 64n }),
+    () => new Parser(24, 80, { scrollback: "1e400" }),
+    () => new Parser(24, 80, { scrollback: [1e20] }),
+    () => new Parser(24, 80, { callbacks: null }),
+    () => new Parser(24, 80, { callbacks: () => {} }),
+    () => new Parser(24, 80, { callbacks: { audibleBell: null } }),
+    () => new Parser(24, 80, { callbacks: { eventsLost: 1 } }),
+    () => new Parser(24, 80, { callbacks: { onScrol() {} } }),
+    () => new Mirror(24, 80, 1000),
+    () => new Mirror(24, 80, { callbacks: {} }),
+    () => parser.cell("a", 0),
+    () => parser.cell(0, "0"),
+    () => parser.cell(),
+    () => parser.rowBytes(0, []),
+    () => parser.allBytes(new Uint16Array(1200)),
+    () => parser.contentsFormattedWith({ portabel: true }),
+    () => parser.contentsFormattedWith({ portable: 1 }),
+    () => parser.contentsDiffWith(parser, { scroll: "no" }),
+    () => parser.contentsDiffWith(parser, { repeat: "ANY" }),
+    () => parser.contentsDiffWith(parser, true),
+    () => parser.find(5),
+    () => parser.toSvg({ cursor: true }),
+    () => parser.toHtml({ theme: null }),
     () => new Screen(),
     () => parser.process(7),
     () => parser.process(null),
@@ -61,6 +87,21 @@ test("arguments of the wrong type", () => {
   ];
   for (const call of wrong) assert.throws(call, TypeError, call.toString());
   assert.equal(parser.contents(), "text");
+});
+
+test("callbacks may have data and inherited members of their own", () => {
+  class Bells {
+    count = 0;
+    add() {
+      this.count++;
+    }
+    audibleBell() {
+      this.add();
+    }
+  }
+  const callbacks = new Bells();
+  new Parser(3, 10, { callbacks }).process("\x07\x07");
+  assert.equal(callbacks.count, 2);
 });
 
 test("screens of different sizes", () => {

@@ -2,6 +2,7 @@
 
 import assert from "node:assert/strict";
 import { test } from "node:test";
+import { runInNewContext } from "node:vm";
 import { screenOf, vt100 } from "./module.js";
 
 const { Parser } = vt100;
@@ -49,12 +50,16 @@ test("any view of bytes is accepted", () => {
   assert.equal(screenOf(new Uint8Array()).contents(), "");
 });
 
+test("a buffer of another realm is accepted", () => {
+  assert.equal(screenOf(runInNewContext("new Uint8Array([65, 66]).buffer")).contents(), "AB");
+});
+
 test("long input is read in chunks", () => {
   const line = "0123456789abcdef\r\n";
   const text = line.repeat(20000);
   const bytes = new TextEncoder().encode(text);
   let scrolled = 0;
-  const parsers = [new Parser(3, 20), new Parser(3, 20, { callbacks: { onScroll: () => scrolled++ } })];
+  const parsers = [new Parser(3, 20), new Parser(3, 20, { callbacks: { onScroll: (rows) => (scrolled += rows.length) } })];
   for (const data of [text, bytes]) {
     for (const parser of parsers) {
       parser.process("\x1bc");

@@ -3,6 +3,7 @@
 import assert from "node:assert/strict";
 import { readFileSync } from "node:fs";
 import { test } from "node:test";
+import { Guard } from "../lib/guard.js";
 import { load } from "../vt100.js";
 import { hasStatus, moduleBytes, moduleWithMaximum, vt100 } from "./module.js";
 
@@ -45,6 +46,38 @@ test("objects that are freed by hand take no more memory", async () => {
   assert.ok(sizes.every((size) => size === sizes[0]), String(sizes));
 });
 
+test("texts and records that need more room than other calls take no more memory", async () => {
+  const vt100 = await load(await moduleBytes());
+  const parser = new vt100.Parser(100, 300);
+  parser.process("0123456789".repeat(3000));
+  const mirror = new vt100.Mirror(100, 300), sizes = [];
+  mirror.process("0123456789".repeat(12000));
+  for (let k = 0; k < 80; k++) {
+    parser.process("\x1b[1;31mx\x1b[m".repeat(1500));
+    for (const text of [parser.contentsFormatted(), parser.stateFormatted()]) assert.ok(text.length > 30000);
+    assert.equal(parser.allBytes().length, 40 * 100 * 300);
+    parser.rowsFormatted();
+    parser.cells(0);
+    parser.contentsDiff(parser); // which takes a copy
+    const viewer = mirror.join();
+    mirror.update(viewer);
+    mirror.leave(viewer);
+    if (k % 20 === 19) sizes.push(vt100.memory.buffer.byteLength);
+  }
+  assert.ok(sizes.every((size) => size === sizes[0]), String(sizes));
+});
+
+test("calls that throw take no more memory", async () => {
+  const vt100 = await load(await moduleBytes());
+  const freed = new vt100.Parser(3, 10), sizes = [];
+  freed.free();
+  for (let k = 0; k < 40000; k++) {
+    for (const call of [() => freed.save(), () => freed.shownCopy()]) assert.throws(call, hasStatus(6));
+    if (k % 10000 === 9999) sizes.push(vt100.memory.buffer.byteLength);
+  }
+  assert.ok(sizes.every((size) => size === sizes[0]), String(sizes));
+});
+
 const noCollector = !globalThis.gc && "no --expose-gc";
 test("objects that are left to the garbage collector are freed", { skip: noCollector }, async () => {
   const vt100 = await load(await moduleBytes());
@@ -57,6 +90,25 @@ test("objects that are left to the garbage collector are freed", { skip: noColle
   }
   // 5000 parsers with their copies take more than 1 GiB.
   assert.ok(vt100.memory.buffer.byteLength < 64 * 2 ** 20, String(vt100.memory.buffer.byteLength));
+});
+
+test("the collector frees nothing that has been freed by hand", { skip: noCollector }, async () => {
+  const vt100 = await load(await moduleBytes());
+  const parserOf = (text) => {
+    const parser = new vt100.Parser(3, 10);
+    parser.process(text);
+    return parser;
+  };
+  for (let k = 0; k < 300; k++) parserOf("gone").free();
+  const live = Array.from({ length: 300 }, (_, k) => parserOf(`live ${k}`));
+  let isCollected = false;
+  const registry = new FinalizationRegistry(() => (isCollected = true));
+  registry.register({}, 0);
+  while (!isCollected) {
+    globalThis.gc();
+    await new Promise((done) => setTimeout(done));
+  }
+  live.forEach((parser, k) => assert.equal(parser.contents(), `live ${k}`));
 });
 
 test("a module out of memory loses nothing", async () => {
@@ -97,8 +149,8 @@ test("a parser that runs out of memory processes no more bytes", async () => {
   assert.match(parser.contents(), /^(0123456789){7}\n/);
 });
 
-const isMemory64 = process.env.VT100_MEMORY64 && "the limit of 4 GiB, which is not that of memory64";
-test("memory ends below 4 GiB", { skip: isMemory64 }, async () => {
+/** Uses the module with 32-bit addresses up to its limit, which the one with 64-bit addresses does not have. */
+async function fillMemory() {
   const { exports } = await WebAssembly.instantiate(new WebAssembly.Module(await moduleBytes()), {});
   // The pages are not written, so they take no memory of the machine.
   const large = exports.vt100_js_malloc(0xff000000n);
@@ -108,7 +160,9 @@ test("memory ends below 4 GiB", { skip: isMemory64 }, async () => {
   assert.ok(exports.memory.buffer.byteLength <= 0xffe00000);
   exports.vt100_js_free(large);
   assert.notEqual(exports.vt100_js_malloc(0x1000000n), 0n);
-});
+}
+
+if (!process.env.VT100_MEMORY64) test("memory ends below 4 GiB", fillMemory);
 
 test("after a trap, every call traps, and another instance works", async () => {
   const module = new WebAssembly.Module(await moduleBytes());
@@ -126,6 +180,58 @@ test("after a trap, every call traps, and another instance works", async () => {
   saved.free();
   const working = await load(module);
   assert.equal(new working.Parser().contents(), "");
+});
+
+/** Calls `call` at every depth of the stack, up to the one at which it overflows. */
+function overflow(call) {
+  call();
+  overflow(call);
+}
+
+test("after an overflow of the stack during a call, errors name it", async () => {
+  const module = new WebAssembly.Module(await moduleBytes());
+  const broken = await load(module);
+  const parser = new broken.Parser(24, 80), other = new broken.Parser(24, 80);
+  parser.process(TEXT);
+  assert.throws(() => overflow(() => parser.contentsFormatted()), /RuntimeError: a call was interrupted/);
+  for (const call of [() => other.contents(), () => other.process("x"), () => new broken.Mirror(), () => parser.size]) {
+    assert.throws(call, (error) => error instanceof WebAssembly.RuntimeError
+      && /an earlier call was interrupted by RangeError/.test(error.message) && error.cause instanceof RangeError);
+  }
+  for (const it of [parser, other]) it.free();
+});
+
+test("an overflow of the stack before a call begins breaks nothing", async () => {
+  const vt100 = await load(await moduleBytes());
+  const parser = new vt100.Parser(3, 10);
+  parser.process("text");
+  assert.throws(() => overflow(() => {}), RangeError);
+  assert.equal(parser.contents(), "text");
+});
+
+test("errors name what interrupted the last call, and nothing that was harmless", () => {
+  let failure = null, isBroken = false;
+  const guard = new Guard({
+    memory: null,
+    vt100_kind() {
+      if (isBroken) throw new WebAssembly.RuntimeError("unreachable");
+      return 0;
+    },
+    vt100_contents() {
+      if (failure !== null) throw failure;
+      return 1;
+    },
+  });
+  guard.emptyHandle = 8n;
+  const { vt100_contents: call } = guard.functions;
+  assert.deepEqual(Object.keys(guard.functions), ["vt100_kind", "vt100_contents"]);
+  failure = new RangeError("harmless");
+  assert.throws(() => call(), (error) => error instanceof WebAssembly.RuntimeError && error.cause === failure);
+  failure = null;
+  assert.equal(call(), 1);
+  [failure, isBroken] = [new RangeError("fatal"), true];
+  assert.throws(() => call(), (error) => error.cause === failure);
+  assert.throws(() => call(), /an earlier call was interrupted by RangeError: fatal/);
 });
 
 test("each instance has memory of its own", async () => {

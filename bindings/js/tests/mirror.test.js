@@ -36,6 +36,11 @@ test("portable updates", () => {
   assert.deepEqual(mirror.update(second), { text: "\x1b[2mc", size: null });
 });
 
+test("sizes have two bytes", () => {
+  const mirror = new Mirror(300, 500);
+  assert.deepEqual(mirror.update(mirror.join()).size, { rows: 300, cols: 500 });
+});
+
 test("viewers join, and the mirror is resized", () => {
   const mirror = new Mirror(2, 10, { scrollback: 5 });
   const first = mirror.join();

@@ -135,7 +135,9 @@ export function notes(lines) {
     unhandledCsi: (_, first, second, params, final) =>
       note("unhandled_csi", optionText(first), optionText(second), groupsText(params), charText(final)),
     unhandledOsc: (_, params) => note("unhandled_osc", ...params.map(quoted)),
-    onScroll: (text, _, alternateScreen) => lines.push(`scroll ${hexed(text)} ${Number(alternateScreen)}`),
+    onScroll: (rows) => lines.push(
+      ...rows.map(({ text, alternateScreen }) => `scroll ${hexed(text)} ${Number(alternateScreen)}`),
+    ),
   };
 }
 

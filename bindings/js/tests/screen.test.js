@@ -62,7 +62,16 @@ test("mouse modes and cursor styles", () => {
   for (const [number, name] of Object.entries({ 1005: "UTF8", 1006: "SGR" })) {
     assert.equal(screenOf(`\x1b[?${number}h`).mouseProtocolEncoding, MouseProtocolEncoding[name]);
   }
-  for (const style of Object.values(CursorStyle)) assert.equal(screenOf(`\x1b[${style} q`).cursorStyle, style);
+  // xterm's control sequences document, DECSCUSR
+  const names = [
+    "DEFAULT", "BLINK_BLOCK", "STEADY_BLOCK", "BLINK_UNDERLINE", "STEADY_UNDERLINE", "BLINK_VERTICAL_BAR",
+    "STEADY_VERTICAL_BAR",
+  ];
+  names.forEach((name, style) => assert.equal(screenOf(`\x1b[${style} q`).cursorStyle, CursorStyle[name]));
+  for (const [text, row, col] of [["ab\r\ncd", 1, 2], ["\x1b[3;4H", 2, 3], ["x".repeat(10), 0, 10]]) {
+    const { cursorRow, cursorCol, rows, cols } = screenOf(text).state;
+    assert.deepEqual([cursorRow, cursorCol, rows, cols], [row, col, 3, 10]);
+  }
 });
 
 test("attributes of the next character", () => {
@@ -129,6 +138,48 @@ test("changed rows", () => {
   assert.equal(screen.dirty().size, 0);
   screen.setSize(2, 15);
   assert.deepEqual([...screen.dirty().keys()], [0, 1]);
+});
+
+test("all rows have changed after a resize, also one of the columns alone", () => {
+  for (const [rows, cols] of [[3, 12], [3, 8], [4, 8], [3, 8]]) {
+    const screen = screenOf("abc");
+    screen.dirty();
+    screen.setSize(rows, cols);
+    const changed = screen.dirty();
+    assert.deepEqual([...changed.keys()], Array.from({ length: rows }, (_, row) => row));
+    for (const [row, records] of changed) assert.deepEqual(records, screen.rowBytes(row));
+  }
+});
+
+test("rows are as wide as the screen", () => {
+  const screen = screenOf("x".repeat(300), 2, 300);
+  assert.deepEqual(screen.rows(), ["x".repeat(300), ""]);
+  assert.deepEqual(screen.rows(290), ["x".repeat(10), ""]);
+  assert.equal(screen.rowsFormatted()[0], "x".repeat(300));
+  assert.equal(screen.rowsDiff(screenOf("", 2, 300))[0], "x".repeat(300));
+});
+
+test("text is found", () => {
+  const screen = screenOf("one two\r\n\u5b57e\u0301 two, and a wrap", 4, 12);
+  const place = (row, col) => ({ row, col });
+  assert.deepEqual(screen.find("two"), [place(0, 4), place(1, 4)]);
+  assert.deepEqual(screen.find("and a wrap"), [place(1, 9)]);
+  assert.deepEqual(screen.find("wrap"), [place(2, 3)]);
+  assert.deepEqual(screen.find("\u5b57"), [place(1, 0)]);
+  assert.deepEqual(screen.find("e\u0301"), [place(1, 2)]);
+  assert.deepEqual(screen.find("o\n"), [place(0, 6)]);
+  assert.deepEqual(screen.find("\n"), [place(0, 7)]);
+  assert.deepEqual(screen.find(/t.o/y), [place(0, 4), place(1, 4)]);
+  assert.deepEqual(screen.find(/^\S+/m), [place(0, 0), place(1, 0)]);
+  assert.deepEqual(screen.find(/TWO/i), [place(0, 4), place(1, 4)]);
+  assert.deepEqual(screen.find(/x*/), []);
+  assert.deepEqual(screen.find("a.w"), []);
+  assert.throws(() => screen.find(""), RangeError);
+  // A newline is after the last column of a full row, also of a wrapped one if the next row is empty, as in contents.
+  assert.deepEqual(screenOf("abc\r\nd", 3, 3).find("\nd"), [place(0, 3)]);
+  const wrapped = screenOf("abcd\x1b[2H\x1b[K\x1b[3Hx", 3, 3);
+  assert.deepEqual([wrapped.rowWrapped(0), wrapped.contents()], [true, "abc\n\nx"]);
+  assert.deepEqual(wrapped.find("c\n\nx"), [place(0, 2)]);
 });
 
 test("text of rows and ranges", () => {

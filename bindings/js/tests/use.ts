@@ -13,6 +13,7 @@ const parser: Parser = new vt100.Parser(24, 80, {
       screen.contents();
       title.subarray(1);
     },
+    onScroll: (rows) => rows.map(({ text, wrapped, alternateScreen }) => text.repeat(Number(wrapped || alternateScreen))),
     unhandledCsi: (_screen, _first, _second, params) => params[0]?.[0]?.toFixed(),
   },
 });
@@ -28,6 +29,8 @@ const isScreen: boolean = saved instanceof Screen && saved instanceof vt100.Scre
 for (const [row, records] of parser.dirty()) new vt100.Cell(records, 40 * row);
 const last: Cell | undefined = parser.allCells()[23]?.[79];
 const whole: Uint8Array = parser.allBytes(new Uint8Array(40 * 24 * 80));
+const above: Cell | undefined = parser.history.at(-1)?.cells[0];
+const old: string[] = saved.history.rows(-20).concat([...parser.history].map(({ wrapped }) => `${wrapped}`));
 const mirror: Mirror = new vt100.Mirror();
 const viewer: bigint = mirror.join();
 const { text, size } = mirror.update(viewer);
@@ -36,10 +39,15 @@ const typed: string = (keyText(key, parser) ?? "") + pasteText("text", parser.st
 const press = { type: "mousedown", button: 0, buttons: 1, shiftKey: false, altKey: false, ctrlKey: false };
 const report: Uint8Array | null = mouseBytes(press, parser.cursor, parser.state);
 saved[Symbol.dispose]();
+console.log(above?.text, old.length, keyText(key, { applicationCursor: true, applicationKeypad: true }));
 console.log(cell?.text, last?.text, whole.length, color, diff, state, isBar, isScreen, text, size?.rows, typed, report);
 
 // @ts-expect-error
 parser.process(7);
+// @ts-expect-error
+new vt100.Parser(24, 80, { callbacks: { onScroll: (text: string) => text } });
+// @ts-expect-error
+parser.history.at("0");
 // @ts-expect-error
 mirror.update(1);
 // @ts-expect-error

@@ -1,21 +1,22 @@
-import { rowText } from "./cells.js";
-
 const DELAY = 250;
 const MAX_ANNOUNCED_ROWS = 8;
 
 /**
  * The text of the displayed rows for screen readers: a hidden element for each row, and a live region that announces
- * changed rows. Both are updated with a delay, so that busy output does not slow down drawing.
+ * changed rows. Both are updated with a delay, so that busy output does not slow down drawing. Then `textOf(row)` returns
+ * the text of a row.
  */
 export class AccessibleText {
   #rows;
   #live;
-  #pending = new Map();
+  #pending = new Set();
+  #textOf;
   #timer = null;
   /** Whether changed rows are announced. */
   announces = true;
 
-  constructor(document) {
+  constructor(document, textOf) {
+    this.#textOf = textOf;
     this.#rows = document.createElement("div");
     this.#rows.setAttribute("role", "group");
     this.#rows.setAttribute("aria-label", "Terminal screen");
@@ -33,9 +34,9 @@ export class AccessibleText {
     this.#rows.replaceChildren(...elements);
   }
 
-  /** Records a changed row. The array of records may be reused afterward. */
-  update(row, records) {
-    this.#pending.set(row, rowText(records));
+  /** Records that a row has changed. */
+  update(row) {
+    this.#pending.add(row);
     this.#timer ??= setTimeout(() => this.flush(), DELAY);
   }
 
@@ -44,8 +45,8 @@ export class AccessibleText {
     clearTimeout(this.#timer);
     this.#timer = null;
     const changed = [];
-    for (const [row, text] of [...this.#pending].sort(([left], [right]) => left - right)) {
-      const element = this.#rows.children[row];
+    for (const row of [...this.#pending].sort((left, right) => left - right)) {
+      const element = this.#rows.children[row], text = this.#textOf(row);
       if (element === undefined || element.textContent === text) continue;
       element.textContent = text;
       if (text.trim() !== "") changed.push(text);

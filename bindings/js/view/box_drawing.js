@@ -21,10 +21,12 @@ const QUADRANTS = [4, 8, 1, 13, 9, 7, 11, 2, 6, 14];
 /** Fills a part of an arm: from `start`, measured outward from the center, to the edge of the cell. */
 function fillArm(context, box, side, start, offset, thickness) {
   const { x, y, width, height, centerX, centerY } = box, half = Math.floor(thickness / 2);
-  if (side === 0) context.fillRect(centerX + offset - half, y, thickness, centerY - start - y);
+  // A line of an odd number of pixels has one in the middle.
+  const nearX = centerX - start + thickness % 2, nearY = centerY - start + thickness % 2;
+  if (side === 0) context.fillRect(centerX + offset - half, y, thickness, nearY - y);
   if (side === 1) context.fillRect(centerX + start, centerY + offset - half, x + width - centerX - start, thickness);
   if (side === 2) context.fillRect(centerX + offset - half, centerY + start, thickness, y + height - centerY - start);
-  if (side === 3) context.fillRect(x, centerY + offset - half, centerX - start - x, thickness);
+  if (side === 3) context.fillRect(x, centerY + offset - half, nearX - x, thickness);
 }
 
 /** Draws a light or heavy arm. It ends at the double lines that it meets, or in the middle. */
@@ -50,7 +52,8 @@ function drawDouble(context, box, arms, side) {
 }
 
 /** Draws a rounded corner, from the middle of one edge of the cell to that of another. */
-function drawArc(context, { x, y, width, height, light, centerX, centerY }, [up, right]) {
+function drawArc(context, { x, y, width, height, light, centerX, centerY }, arms) {
+  const [up, right] = arms;
   const half = light % 2 / 2; // the lines of other characters are rectangles of whole pixels
   context.strokeStyle = context.fillStyle;
   context.lineWidth = light;

@@ -1,11 +1,26 @@
+import { notNegative, optionsAmong, positive } from "../lib/errors.js";
+import { Cast } from "./cast.js";
 import { Keyframes } from "./keyframes.js";
-import { SequenceEnd } from "./sequence_end.js";
+
+const OPTIONS = ["scrollback", "idleTimeLimit", "playbackRate", "keyframes", "clock"];
 
 const DEFAULT_CLOCK = {
   now: () => performance.now() / 1000,
   request: (callback) => (globalThis.requestAnimationFrame ?? ((run) => setTimeout(run, 16)))(callback),
   cancel: (number) => (globalThis.cancelAnimationFrame ?? clearTimeout)(number),
 };
+
+/** Returns events with the line drawing in their output translated to Unicode, which parsers do not do. */
+function translated(events, { Charsets }) {
+  const charsets = new Charsets(), decoder = new TextDecoder("utf-8", { ignoreBOM: true });
+  try {
+    return events.map((event) => {
+      return event.kind === "o" ? { ...event, data: decoder.decode(charsets.translate(event.data)) } : event;
+    });
+  } finally {
+    charsets.free();
+  }
+}
 
 /**
  * Plays a recording on a parser, in the manner of an HTMLMediaElement. Saved screens make seeking fast. view.d.ts
@@ -16,7 +31,6 @@ export class CastPlayer extends EventTarget {
   #clock;
   #parser;
   #keyframes;
-  #sequence = new SequenceEnd();
   /** The index of the next event, and the number of characters before it. */
   #index = 0;
   #position = 0;
@@ -26,14 +40,16 @@ export class CastPlayer extends EventTarget {
   #rate = 1;
   #request = null;
 
-  constructor({ Parser }, cast, { scrollback = 500, idleTimeLimit = cast.idleTimeLimit, playbackRate = 1, keyframes,
-    clock = DEFAULT_CLOCK } = {}) {
+  constructor(vt100, cast, options = {}) {
     super();
-    if (!(idleTimeLimit >= 0)) throw new RangeError("idleTimeLimit must not be negative");
+    const { scrollback = 500, idleTimeLimit = cast.idleTimeLimit, playbackRate = 1, keyframes, clock = DEFAULT_CLOCK } =
+      optionsAmong(OPTIONS, options);
+    if (!(cast instanceof Cast)) throw new TypeError("a Cast is required");
+    notNegative("idleTimeLimit", idleTimeLimit);
     this.cast = cast;
-    this.#events = cast.withIdleTimeLimit(idleTimeLimit);
+    this.#events = translated(cast.withIdleTimeLimit(idleTimeLimit), vt100);
     this.#clock = clock;
-    this.#parser = new Parser(cast.rows, cast.cols, { scrollback });
+    this.#parser = new vt100.Parser(cast.rows, cast.cols, { scrollback });
     this.#keyframes = new Keyframes(keyframes);
     this.#keyframes.offer(this.#parser, 0, 0);
     this.playbackRate = playbackRate;
@@ -73,7 +89,7 @@ export class CastPlayer extends EventTarget {
   }
 
   set playbackRate(rate) {
-    if (!(rate > 0 && rate < Infinity)) throw new RangeError("playbackRate must be positive");
+    positive("playbackRate", rate);
     this.#restartClock(this.currentTime);
     this.#rate = rate;
     this.#emit("ratechange");
@@ -100,6 +116,16 @@ export class CastPlayer extends EventTarget {
     this.#moveTo(Math.min(Math.max(Number(seconds), 0), this.duration));
     this.#emit("seeked");
     this.#emit("timeupdate");
+  }
+
+  /** Pauses, and goes to the next time at which the screen changes, or to the last one before if `count` is negative. */
+  step(count) {
+    if (typeof count !== "number") throw new TypeError(`count must be a number, not ${typeof count}`);
+    if (!(count > 0 || count < 0)) throw new RangeError(`count must be positive or negative, not ${count}`);
+    this.pause();
+    const times = this.#events.filter(({ kind }) => kind === "o" || kind === "r").map(({ time }) => time), now = this.#time;
+    if (count > 0) this.seek(times.find((time) => time > now) ?? this.duration);
+    else this.seek(times.findLast((time) => time < now) ?? 0);
   }
 
   free() {
@@ -157,7 +183,6 @@ export class CastPlayer extends EventTarget {
     const copy = screen.save();
     this.#parser.swap(copy);
     copy.free();
-    this.#sequence.reset();
     this.#index = index;
     this.#position = position;
   }
@@ -165,7 +190,7 @@ export class CastPlayer extends EventTarget {
   #applyUntil(time) {
     for (; this.#index < this.#events.length && this.#events[this.#index].time <= time; this.#index++) {
       // A saved screen has no unfinished sequence, so it must be saved where there is none.
-      if (this.#sequence.isReached) this.#keyframes.offer(this.#parser, this.#index, this.#position);
+      if (this.#parser.isGround) this.#keyframes.offer(this.#parser, this.#index, this.#position);
       this.#apply(this.#events[this.#index]);
     }
   }
@@ -174,7 +199,6 @@ export class CastPlayer extends EventTarget {
     if (kind === "r") this.#parser.setSize(rows, cols);
     if (kind !== "o") return;
     this.#parser.process(data);
-    this.#sequence.read(data);
     this.#position += data.length;
   }
 }

@@ -65,7 +65,8 @@ function hasSameLook(records, left, right) {
 }
 
 /** Returns whether the character in a column, of which the column may be either half, is selected. */
-function isSelectedAt(records, col, [start, end]) {
+function isSelectedAt(records, col, selected) {
+  const [start, end] = selected;
   const first = flagsAt(records, col) & CONTINUATION && col > 0 ? col - 1 : col;
   const last = flagsAt(records, col) & WIDE ? col + 1 : col;
   return last >= start && first < end;

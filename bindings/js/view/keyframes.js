@@ -1,3 +1,5 @@
+import { inRange, optionsAmong } from "../lib/errors.js";
+
 const OUT_OF_MEMORY = 1;
 
 /**
@@ -9,9 +11,10 @@ export class Keyframes {
   #interval;
   #limit;
 
-  constructor({ interval = 65536, limit = 32 } = {}) {
-    this.#interval = interval;
-    this.#limit = limit;
+  constructor(options = {}) {
+    const { interval = 65536, limit = 32 } = optionsAmong(["interval", "limit"], options);
+    this.#interval = inRange("interval", interval, 1, Number.MAX_SAFE_INTEGER);
+    this.#limit = inRange("limit", limit, 1, Number.MAX_SAFE_INTEGER);
   }
 
   /** The number of saved screens. */

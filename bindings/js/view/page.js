@@ -5,6 +5,7 @@ import { escape, unescape } from "./escapes.js";
 import "./view.js";
 
 const parameters = new URLSearchParams(location.search);
+/** @type {(id: string) => any} */
 const find = (id) => document.getElementById(id);
 const ROWS = 8, COLS = 80;
 
@@ -47,7 +48,7 @@ class Playground {
     this.#view.draw();
     for (const [id, text] of [["redraw", this.#parser.contentsFormatted()], ["diff", diff]]) {
       find(id).textContent = escape(text);
-      find(`${id}-length`).textContent = new TextEncoder().encode(text).length;
+      find(`${id}-length`).textContent = String(new TextEncoder().encode(text).length);
     }
   }
 }

@@ -76,16 +76,16 @@ export class Painter {
   paintRow(row, records, selected, cursor) {
     const context = this.#context, { cellWidth, cellHeight, theme } = this, y = row * cellHeight;
     const runs = runsOf(records, selected ?? NO_COLUMNS);
+    const colors = runs.map(({ col, isSelected }) => theme.colorsOf(records, col, isSelected));
     this.#clip(y);
     context.fillStyle = theme.background;
     context.fillRect(0, y, this.cols * cellWidth, cellHeight);
-    for (const run of runs) {
-      run.colors = theme.colorsOf(records, run.col, run.isSelected);
-      if (run.colors.background === theme.background) continue;
-      context.fillStyle = run.colors.background;
-      context.fillRect(run.col * cellWidth, y, run.width * cellWidth, cellHeight);
-    }
-    for (const run of runs) this.#paintText(run, y);
+    runs.forEach(({ col, width }, k) => {
+      if (colors[k].background === theme.background) return;
+      context.fillStyle = colors[k].background;
+      context.fillRect(col * cellWidth, y, width * cellWidth, cellHeight);
+    });
+    runs.forEach((run, k) => this.#paintText(run, colors[k].text, y));
     if (cursor !== null) this.#paintCursor(records, y, cursor);
     this.#unclip();
   }
@@ -105,11 +105,11 @@ export class Painter {
     this.#font = this.#fonts[0];
   }
 
-  #paintText({ col, width, text, isSimple, flags, colors }, y) {
+  #paintText({ col, width, text, isSimple, flags }, color, y) {
     const context = this.#context, { cellWidth } = this, x = col * cellWidth;
     const isBlank = text.trim() === "";
     if (isBlank && !(flags & UNDERLINE)) return;
-    context.fillStyle = colors.text;
+    context.fillStyle = color;
     context.globalAlpha = flags & DIM ? this.theme.dimOpacity : 1;
     if (!isBlank) this.#paintGlyphs(text, x, y, width * cellWidth, isSimple, flags);
     if (flags & UNDERLINE) this.#paintUnderline(x, y, width * cellWidth);
@@ -132,6 +132,7 @@ export class Painter {
     this.#font = font;
     this.#context.font = font.css;
     this.#context.textBaseline = "alphabetic";
+    this.#context.direction = "ltr"; // otherwise, it is that of the element
     if (this.#hasSpacing) this.#context.letterSpacing = font.spacing;
   }
 
@@ -151,6 +152,6 @@ export class Painter {
     if (shape === "bar") return context.fillRect(x, y, thickness, cellHeight);
     context.fillRect(x, y, width, cellHeight);
     const run = runsOf(records.subarray(CELL_SIZE * first, CELL_SIZE * (first + cells)))[0];
-    return this.#paintText({ ...run, col: first, colors: { text: theme.cursorText } }, y);
+    return this.#paintText({ ...run, col: first }, theme.cursorText, y);
   }
 }

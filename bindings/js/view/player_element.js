@@ -1,69 +1,74 @@
+import { positive } from "../lib/errors.js";
 import { Cast } from "./cast.js";
 import { CastPlayer } from "./cast_player.js";
+import { ElementBase } from "./element.js";
+import { PlayerControls } from "./player_controls.js";
+import { pressKey } from "./player_keys.js";
 import { adoptStyle } from "./styles.js";
 import { TerminalView } from "./terminal_view.js";
 import { Theme } from "./theme.js";
 
 const STYLE = `
-  :host { display: block; font: 13px system-ui, sans-serif; }
-  :host([hidden]) { display: none; }
-  .controls { display: flex; gap: 8px; align-items: center; padding: 6px 0; }
+  :host { display: block; position: relative; font: 13px system-ui, sans-serif; }
+  :host([hidden]), [hidden] { display: none !important; }
+  .controls { display: flex; gap: 8px; align-items: center; padding: 6px 0; direction: ltr; }
   input[type=range] { flex: 1; min-width: 60px; }
   button { min-width: 4em; }
+  button.full { min-width: 0; }
+  button.full::before { content: ""; display: inline-block; width: 1em; height: .6em; border: 2px solid; }
   output { font-variant-numeric: tabular-nums; }
+  .help { position: absolute; inset: 12px auto auto 12px; display: grid; grid-template-columns: auto auto; gap: 4px 16px;
+    margin: 0; padding: 12px 16px; direction: ltr; color: #fff; background: #000d; border-radius: 6px; }
+  dt { font-weight: bold; } dd { margin: 0; }
+  :host(:fullscreen) { display: flex; flex-direction: column; padding: 0 8px; background: #000; color: #fff; }
+  :host(:fullscreen) .view { flex: 1; min-height: 0; }
+  :host(:fullscreen) .view > * { height: 100%; }
 `;
-const TEMPLATE = `
-  <div class="view"></div>
-  <div class="controls" role="group" aria-label="Player">
-    <button type="button" part="button">Play</button>
-    <input type="range" min="0" value="0" step="any" aria-label="Time" list="markers">
-    <datalist id="markers"></datalist>
-    <output aria-live="off"></output>
-    <select aria-label="Speed">
-      <option value="0.5">0.5×</option><option value="1" selected>1×</option><option value="2">2×</option>
-      <option value="4">4×</option><option value="8">8×</option>
-    </select>
-  </div>`;
-const STEP = 5;
+const EVENTS = ["play", "pause", "ended", "seeked", "timeupdate", "ratechange"];
+const ATTRIBUTES_OF_VIEW = ["fit", "font-size", "font-family", "line-height"];
 
-/** Returns seconds as minutes and seconds. */
-function clockTime(seconds) {
-  const whole = Math.floor(seconds);
-  return `${Math.floor(whole / 60)}:${String(whole % 60).padStart(2, "0")}`;
+/** Returns the number of seconds in an attribute: a number, or `m:ss` or `h:mm:ss`. Throws a RangeError for other text. */
+function secondsOf(name, text) {
+  const parts = text.trim().split(":"), seconds = parts.reduce((sum, part) => 60 * sum + Number(part || NaN), 0);
+  if (!(seconds >= 0) || parts.length > 3) throw new RangeError(`${name} must be a time, not ${JSON.stringify(text)}`);
+  return seconds;
 }
 
 /**
  * An element that plays recordings: `<vt100-player src="session.cast">`. It has a view and controls. view.d.ts describes
  * the interface.
  */
-export class CastPlayerElement extends HTMLElement {
-  static observedAttributes = ["src", "fit", "font-size", "font-family", "line-height"];
+export class CastPlayerElement extends ElementBase {
+  static observedAttributes = ["src", ...ATTRIBUTES_OF_VIEW];
 
   #player = null;
-  #view;
-  #button;
-  #slider;
-  #output;
-  #speed;
-  #markers;
+  #rate = 1;
+  #view = new TerminalView();
+  #controls = new PlayerControls(this);
+  /** Ends the download of the recording, if one is going on. */
+  #download = null;
+  /** The screen that is displayed until the recording is played, or null. */
+  #poster = null;
+  /** The theme of the page, and that of the last recording. */
+  #pageTheme = Theme.dark;
+  #castTheme = null;
+
+  /** What `load` of vt100.js returned. Unless it is assigned, it is loaded from beside this directory. */
+  vt100 = null;
 
   constructor() {
     super();
-    const root = this.attachShadow({ mode: "open" }), find = (selector) => root.querySelector(selector);
-    root.innerHTML = TEMPLATE;
+    const root = this.attachShadow({ mode: "open" }), box = document.createElement("div");
     adoptStyle(root, STYLE);
-    this.#view = new TerminalView();
-    find(".view").append(this.#view);
-    [this.#button, this.#slider, this.#output] = [find("button"), find("input"), find("output")];
-    [this.#speed, this.#markers] = [find("select"), find("datalist")];
-    this.#button.addEventListener("click", () => this.toggle());
-    this.#slider.addEventListener("input", () => this.seek(Number(this.#slider.value)));
-    this.#speed.addEventListener("change", () => (this.playbackRate = Number(this.#speed.value)));
-    this.#view.addEventListener("keydown", (event) => this.#keyDown(event));
+    box.className = "view";
+    box.append(this.#view);
+    root.append(box, this.#controls.element, this.#controls.help);
+    this.#view.addEventListener("keydown", (event) => pressKey(event, this));
+    this.addEventListener("fullscreenchange", () => this.#fitFullscreen());
   }
 
   attributeChangedCallback(name, _, value) {
-    if (name === "src") this.load(value).catch((error) => this.#fail(error));
+    if (name === "src") this.#sourceChanged(value);
     else if (value === null) this.#view.removeAttribute(name);
     else this.#view.setAttribute(name, value);
   }
@@ -72,15 +77,13 @@ export class CastPlayerElement extends HTMLElement {
     this.pause();
   }
 
-  /** What `load` of vt100.js returned. Unless it is assigned, it is loaded from beside this directory. */
-  vt100 = null;
-
   get src() {
     return this.getAttribute("src");
   }
 
   set src(url) {
-    this.setAttribute("src", url);
+    if (url === null) this.removeAttribute("src");
+    else this.setAttribute("src", url);
   }
 
   get view() {
@@ -91,34 +94,71 @@ export class CastPlayerElement extends HTMLElement {
     return this.#player;
   }
 
+  /** Loads the recording of the attribute. Without it, the loaded one stays. */
+  #sourceChanged(url) {
+    if (url === null) return this.#download?.abort();
+    this.load(url).catch((error) => error.name === "AbortError" || this.#fail(error));
+  }
+
   async load(url) {
-    const [response] = await Promise.all([fetch(new URL(url, document.baseURI)), this.#loadLibrary()]);
+    this.#download?.abort();
+    const download = this.#download = new AbortController(), { signal } = download;
+    const [response] = await Promise.all([fetch(new URL(url, document.baseURI), { signal }), this.#loadLibrary()]);
     if (!response.ok) throw new Error(`${url}: ${response.status} ${response.statusText}`);
-    this.open(await response.text());
+    const text = await response.text();
+    // A later recording may have been opened while the library was loaded.
+    signal.throwIfAborted();
+    this.open(text);
   }
 
   async #loadLibrary() {
-    if (this.vt100 === null) this.vt100 = await (await import("../vt100.js")).load();
+    this.vt100 ??= await (await import("../vt100.js")).load();
   }
 
-  open(text) {
-    const cast = text instanceof Cast ? text : new Cast(text), limit = this.getAttribute("idle-time-limit");
-    const options = { playbackRate: this.playbackRate, ...(limit === null ? {} : { idleTimeLimit: Number(limit) }) };
+  open(recording) {
+    if (this.vt100 === null) throw new TypeError("the property vt100 must be set before open() is called");
+    const cast = recording instanceof Cast ? recording : new Cast(recording), limit = this.getAttribute("idle-time-limit");
+    const poster = this.getAttribute("poster"), posterTime = poster === null ? null : secondsOf("poster", poster);
+    const options = { playbackRate: this.#rate, ...(limit === null ? {} : { idleTimeLimit: Number(limit) }) };
     const player = new CastPlayer(this.vt100, cast, options);
+    this.#download?.abort();
+    this.#removePoster();
     this.#player?.free();
     this.#player = player;
-    if (cast.theme !== null) this.#view.theme = Theme.fromCast(cast.theme, this.#view.theme);
+    this.#adoptTheme(cast);
     this.#view.attach(player.parser);
-    player.addEventListener("screenchange", () => this.#view.requestDraw());
-    for (const type of ["play", "pause", "ended", "seeked", "timeupdate", "ratechange"]) {
-      player.addEventListener(type, () => this.#changed(player, type));
-    }
-    this.#slider.max = player.duration;
-    this.#markers.replaceChildren(...player.markers.map(({ time, label }) => new Option(label, time)));
-    this.#showTime();
+    player.addEventListener("screenchange", () => this.#screenChanged(player));
+    for (const type of EVENTS) player.addEventListener(type, () => this.#changed(player, type));
+    this.#controls.setRecording(player.duration, player.markers);
+    if (posterTime !== null) this.#showPoster(posterTime);
+    this.#controls.show(this);
     this.#view.draw();
     this.dispatchEvent(new Event("loadeddata"));
     if (this.hasAttribute("autoplay")) this.play();
+  }
+
+  /** Gives the view the colors of a recording or, if it has none, those of the page. */
+  #adoptTheme(cast) {
+    if (this.#view.theme !== this.#castTheme) this.#pageTheme = this.#view.theme;
+    this.#castTheme = Theme.fromCast(cast.theme, this.#pageTheme);
+    this.#view.theme = this.#castTheme;
+  }
+
+  /** Displays the screen of a time, while the player stays at the beginning. */
+  #showPoster(time) {
+    const player = this.#player;
+    player.seek(time);
+    const poster = player.parser.save();
+    player.seek(0);
+    this.#poster = poster;
+    this.#view.attach(poster);
+  }
+
+  #removePoster() {
+    if (this.#poster === null) return;
+    if (this.#player !== null) this.#view.attach(this.#player.parser);
+    this.#poster.free();
+    this.#poster = null;
   }
 
   play() {
@@ -136,6 +176,22 @@ export class CastPlayerElement extends HTMLElement {
 
   seek(seconds) {
     this.#player?.seek(seconds);
+  }
+
+  async toggleFullscreen() {
+    if (!document.fullscreenEnabled) throw new TypeError("the page may not use fullscreen");
+    if (document.fullscreenElement === this) await document.exitFullscreen();
+    else await this.requestFullscreen();
+  }
+
+  toggleHelp() {
+    this.#controls.help.hidden = !this.#controls.help.hidden;
+  }
+
+  #fitFullscreen() {
+    const isFullscreen = this.matches(":fullscreen");
+    this.#view.setAttribute("fit", isFullscreen ? "both" : this.getAttribute("fit") ?? "none");
+    if (isFullscreen) this.#view.focus();
   }
 
   get currentTime() {
@@ -158,41 +214,44 @@ export class CastPlayerElement extends HTMLElement {
     return this.#player?.ended ?? false;
   }
 
+  get loop() {
+    return this.hasAttribute("loop");
+  }
+
+  set loop(isLooping) {
+    this.toggleAttribute("loop", Boolean(isLooping));
+  }
+
   get playbackRate() {
-    return this.#player?.playbackRate ?? Number(this.#speed.value);
+    return this.#rate;
   }
 
   set playbackRate(rate) {
+    this.#rate = positive("playbackRate", rate);
     if (this.#player !== null) this.#player.playbackRate = rate;
-    this.#speed.value = String(rate);
+    this.#controls.rate = rate;
+  }
+
+  #screenChanged(player) {
+    if (player !== this.#player) return;
+    this.#removePoster();
+    this.#view.requestDraw();
   }
 
   #changed(player, type) {
     if (player !== this.#player) return;
-    this.#showTime();
-    this.#button.textContent = player.paused ? "Play" : "Pause";
+    if (type === "play") this.#removePoster();
+    // Nobody can listen to a screen that changes all the time.
+    if (type === "play" || type === "pause") this.#view.announces = player.paused;
+    this.#controls.show(this);
     this.dispatchEvent(new Event(type));
-  }
-
-  #showTime() {
-    this.#slider.value = this.currentTime;
-    this.#output.textContent = `${clockTime(this.currentTime)} / ${clockTime(this.duration)}`;
-  }
-
-  #keyDown(event) {
-    if (event.ctrlKey || event.altKey || event.metaKey || event.shiftKey) return;
-    const actions = {
-      " ": () => this.toggle(),
-      ArrowLeft: () => this.seek(this.currentTime - STEP),
-      ArrowRight: () => this.seek(this.currentTime + STEP),
-    };
-    if (actions[event.key] === undefined) return;
-    event.preventDefault();
-    actions[event.key]();
+    // A recording without duration would end at once, again and again.
+    if (type === "ended" && this.loop && player.duration > 0) this.play();
   }
 
   #fail(error) {
-    this.#output.textContent = String(error.message ?? error);
-    this.dispatchEvent(new ErrorEvent("error", { error, message: String(error.message ?? error) }));
+    const message = String(error.message ?? error);
+    this.#controls.message = message;
+    this.dispatchEvent(new ErrorEvent("error", { error, message }));
   }
 }

@@ -1,4 +1,4 @@
-import { CONTINUATION, flagsAt, textAt } from "./cells.js";
+import { CONTINUATION, flagsAt, hasEqualCells, textAt } from "./cells.js";
 
 const SEPARATOR = /^$|[\s()[\]{}<>'"`,;|│]/;
 
@@ -55,6 +55,30 @@ export class Selection {
     const start = row === range.start.row ? range.start.col : 0, end = row === range.end.row ? range.end.col : cols;
     return start < end ? [start, end] : null;
   }
+}
+
+/**
+ * Returns whether the text of a selection is the same before and after a screen has got another size. Each is the state of
+ * the screen with `rowAt(row)`, which returns the records of a displayed row. Rows of scrollback do not change.
+ */
+export function isSameText(selection, before, after) {
+  const { range } = selection, { scrollbackLen } = after;
+  if (range === null || before.scrollbackLen !== scrollbackLen) return false;
+  for (let row = Math.max(range.start.row, scrollbackLen); row <= range.end.row; row++) {
+    const columns = selection.columnsOf(row, before.cols), page = row - scrollbackLen;
+    const old = page + before.scrollback, now = page + after.scrollback;
+    if (columns === null) continue;
+    if (old >= before.rows || now >= after.rows) return false;
+    if (!hasSameColumns(before.rowAt(old), after.rowAt(now), columns, after.cols)) return false;
+  }
+  return true;
+}
+
+/** Returns whether columns of a row are the same in a row that has `cols` columns. Columns that were cut off must be blank. */
+function hasSameColumns(old, now, [start, end], cols) {
+  if (!hasEqualCells(old, now, start, Math.min(end, cols))) return false;
+  for (let col = Math.max(start, cols); col < end; col++) if (textAt(old, col).trim() !== "") return false;
+  return true;
 }
 
 /** Returns the column at which the character that a position would split begins, or ends if `toEnd` is true. */

@@ -1,29 +1,41 @@
+import { notNegative, oneOf, positive } from "../lib/errors.js";
 import { AccessibleText } from "./accessible_text.js";
 import { Blinker } from "./blinker.js";
-import { hasEqualCells } from "./cells.js";
+import { rowText } from "./cells.js";
+import { CopyArea } from "./copy_area.js";
+import { ElementBase, positiveIn } from "./element.js";
 import { Painter } from "./painter.js";
-import { PointerSelection } from "./pointer_selection.js";
 import { RowStore } from "./row_store.js";
-import { Selection, lineOf, textBetween, wordAt } from "./selection.js";
 import { adoptStyle } from "./styles.js";
 import { Theme } from "./theme.js";
+import { TouchInput } from "./touch_input.js";
+import { ViewSelection, topRowOf } from "./view_selection.js";
 
 const STYLE = `
-  :host { display: block; overflow: hidden; outline-offset: 2px; cursor: text; background: ${Theme.dark.background}; }
+  :host { display: block; position: relative; overflow: hidden; outline-offset: 2px; cursor: text; direction: ltr;
+    background: ${Theme.dark.background}; }
   :host([hidden]) { display: none; }
   canvas { display: block; user-select: none; }
   .accessible { position: absolute; width: 1px; height: 1px; overflow: hidden; clip-path: inset(50%); white-space: pre; }
+  .copy { position: absolute; width: 16px; height: 16px; padding: 0; border: 0; opacity: 0; resize: none; overflow: hidden; }
+  .copy[hidden] { display: none; }
 `;
 const SHAPES = { 1: "block", 2: "block", 3: "underline", 4: "underline", 5: "bar", 6: "bar" };
 const BLINKING = [1, 3, 5];
+const CURSOR_SHAPES = ["block", "underline", "bar"], FITS = ["none", "width", "both"];
 const MIN_PIXELS = 4;
 const MAX_PIXELS = 400;
+
+/** Returns whether a key is the one that selects everything: Ctrl+A, or Command+A on a Mac. */
+function isSelectAll({ key, ctrlKey, metaKey, shiftKey }) {
+  return key?.toLowerCase() === "a" && ctrlKey !== metaKey && !shiftKey;
+}
 
 /**
  * An element that draws a screen on a canvas: `<vt100-view>`. Only rows that have changed since the last drawing are
  * drawn. view.d.ts describes the interface.
  */
-export class TerminalView extends HTMLElement {
+export class TerminalView extends ElementBase {
   static observedAttributes = ["font-size", "font-family", "line-height", "fit"];
 
   #screen = null;
@@ -32,8 +44,8 @@ export class TerminalView extends HTMLElement {
   #painter;
   #accessible;
   #store = new RowStore();
-  #selection = new Selection();
-  #pointer;
+  #selection;
+  #copyArea;
   #rows = 0;
   #cols = 0;
   #state = null;
@@ -47,6 +59,8 @@ export class TerminalView extends HTMLElement {
   #turned = 0;
   #observer = new ResizeObserver(() => this.fit === "none" || this.#refit());
   #density = null;
+  /** The shape of a cursor with the default style. */
+  #cursorShape = "block";
 
   constructor() {
     super();
@@ -54,14 +68,17 @@ export class TerminalView extends HTMLElement {
     adoptStyle(root, STYLE);
     this.#canvas = document.createElement("canvas");
     this.#canvas.setAttribute("aria-hidden", "true");
-    this.#accessible = new AccessibleText(document);
+    this.#accessible = new AccessibleText(document, (row) => rowText(this.#store.rowAt(row)));
     root.append(this.#canvas, this.#accessible.element);
     this.#painter = new Painter(this.#canvas.getContext("2d", { alpha: false }));
-    this.#pointer = new PointerSelection(this.#pointerTarget());
+    this.#selection = new ViewSelection(this.#selectionHost());
+    this.#copyArea = new CopyArea(root, () => this.selectedText, () => this.focus({ preventScroll: true }));
+    new TouchInput(this.#canvas, this.#touchTarget());
     this.#canvas.addEventListener("mousedown", (event) => this.#mouseDown(event));
     this.addEventListener("wheel", (event) => this.#wheelTurned(event), { passive: false });
     this.addEventListener("keydown", (event) => this.#keyDown(event));
     this.addEventListener("copy", (event) => this.#copy(event));
+    this.addEventListener("contextmenu", (event) => this.#openMenu(event));
   }
 
   connectedCallback() {
@@ -69,12 +86,14 @@ export class TerminalView extends HTMLElement {
     if (!this.hasAttribute("role")) this.setAttribute("role", "region");
     if (!this.hasAttribute("aria-label")) this.setAttribute("aria-label", "Terminal");
     this.#observer.observe(this);
+    document.fonts?.addEventListener("loadingdone", this.#fontsLoaded);
     this.#watchDensity();
     this.#refit();
   }
 
   disconnectedCallback() {
     this.#observer.disconnect();
+    document.fonts?.removeEventListener("loadingdone", this.#fontsLoaded);
     this.#density?.removeEventListener("change", this.#densityChanged);
     this.#density = null;
     this.#blinker.isBlinking = false;
@@ -93,8 +112,8 @@ export class TerminalView extends HTMLElement {
   }
 
   attach(screen) {
-    this.clearSelection();
-    this.#pointer.reset();
+    if (typeof screen?.rowBytes !== "function") throw new TypeError("attach takes a Screen or a Parser");
+    this.#selection.reset();
     this.#screen = screen;
     this.#isStale = true;
     this.#store.clear();
@@ -126,11 +145,11 @@ export class TerminalView extends HTMLElement {
     if (this.#isStale || isResized) this.#prepare(state);
     const changed = this.#store.read(this.#screen, state), before = this.#state;
     this.#state = state;
-    if (before !== null && !isScrolled && changed.size > 0) this.#dropStaleSelection(before);
+    if (before !== null && !isScrolled && changed.size > 0) this.#selection.dropIfStale(before);
     if (before?.cursorRow !== state.cursorRow || before.cursorCol !== state.cursorCol) this.#blinker.isLit = true;
     let drawn = 0;
     for (let row = 0; row < state.rows; row++) drawn += Number(this.#drawRow(row, changed.has(row)));
-    for (const row of changed) this.#accessible.update(row, this.#store.rowAt(row));
+    for (const row of changed) this.#accessible.update(row);
     this.#blinker.isBlinking = this.isConnected && BLINKING.includes(state.cursorStyle) && !state.hideCursor;
     const { scrollback, scrollbackLen } = state, isMoved = before?.scrollback !== scrollback;
     if (isMoved || before.scrollbackLen !== scrollbackLen) this.#emit("scrollbackchange", { scrollback, scrollbackLen });
@@ -139,7 +158,7 @@ export class TerminalView extends HTMLElement {
 
   /** Draws a row if its cells, its selection or its cursor have changed. Returns whether it was drawn. */
   #drawRow(row, hasChanged) {
-    const selected = this.#selection.columnsOf(row + this.#topRow(), this.#cols), cursor = this.#cursorOn(row);
+    const selected = this.#selection.columnsOf(row + topRowOf(this.#state), this.#cols), cursor = this.#cursorOn(row);
     const key = `${selected ?? ""};${cursor?.col ?? ""};${cursor?.shape ?? ""}`;
     if (!hasChanged && this.#drawnWith[row] === key) return false;
     this.#drawnWith[row] = key;
@@ -150,9 +169,8 @@ export class TerminalView extends HTMLElement {
   /** Gives the canvas the size of the screen in the current font. */
   #prepare({ rows, cols }) {
     if (rows !== this.#rows || cols !== this.#cols) {
+      this.#selection.resize();
       [this.#rows, this.#cols] = [rows, cols];
-      this.clearSelection();
-      this.#pointer.reset();
       this.#accessible.resize(rows);
     }
     this.#setFont(this.#pixelsToUse());
@@ -174,6 +192,7 @@ export class TerminalView extends HTMLElement {
   }
 
   redraw() {
+    this.#fontInUse = "";
     this.#isStale = true;
     return this.draw();
   }
@@ -200,11 +219,11 @@ export class TerminalView extends HTMLElement {
   }
 
   get fontSize() {
-    return Number(this.getAttribute("font-size")) || 16;
+    return positiveIn(this, "font-size", 16);
   }
 
   set fontSize(size) {
-    this.setAttribute("font-size", size);
+    this.setAttribute("font-size", String(positive("fontSize", size)));
   }
 
   get fontFamily() {
@@ -216,24 +235,30 @@ export class TerminalView extends HTMLElement {
   }
 
   get lineHeight() {
-    return Number(this.getAttribute("line-height")) || 1;
+    return positiveIn(this, "line-height", 1);
   }
 
   set lineHeight(factor) {
-    this.setAttribute("line-height", factor);
+    this.setAttribute("line-height", String(positive("lineHeight", factor)));
   }
 
   get fit() {
     const fit = this.getAttribute("fit");
-    return fit === "width" || fit === "both" ? fit : "none";
+    return FITS.includes(fit) ? fit : "none";
   }
 
   set fit(fit) {
-    this.setAttribute("fit", fit);
+    this.setAttribute("fit", oneOf("fit", fit, FITS));
   }
 
-  /** The shape of a cursor with the default style: "block", "underline" or "bar". */
-  cursorShape = "block";
+  get cursorShape() {
+    return this.#cursorShape;
+  }
+
+  set cursorShape(shape) {
+    this.#cursorShape = oneOf("cursorShape", shape, CURSOR_SHAPES);
+    this.#refit();
+  }
 
   get cellWidth() {
     return this.#painter.cellWidth / this.#scale();
@@ -252,6 +277,7 @@ export class TerminalView extends HTMLElement {
   }
 
   sizeThatFits(width, height) {
+    for (const [name, length] of [["width", width], ["height", height]]) notNegative(name, length);
     this.#setFont(this.#pixelsToUse());
     const count = (length, cell) => Math.min(Math.max(Math.floor(length / cell), 1), 65535);
     return { rows: count(height, this.cellHeight), cols: count(width, this.cellWidth) };
@@ -297,6 +323,12 @@ export class TerminalView extends HTMLElement {
     this.requestDraw();
   }
 
+  /** Measures the font again, which may be one that was just loaded. */
+  #fontsLoaded = () => {
+    this.#fontInUse = "";
+    this.#refit();
+  };
+
   #densityChanged = () => {
     this.#watchDensity();
     this.#refit();
@@ -311,12 +343,8 @@ export class TerminalView extends HTMLElement {
 
   // ---- scrollback
 
-  /** Returns the number of the first displayed row, counted from the oldest scrollback row. */
-  #topRow() {
-    return this.#state.scrollbackLen - this.#state.scrollback;
-  }
-
   scrollRows(count) {
+    if (typeof count !== "number") throw new TypeError(`count must be a number, not ${typeof count}`);
     this.draw();
     const state = this.#stateOfScreen();
     if (state === null) return;
@@ -336,14 +364,23 @@ export class TerminalView extends HTMLElement {
     const delta = event.deltaY || (event.shiftKey ? event.deltaX : 0);
     const all = this.#turned + delta * unit, count = Math.trunc(all);
     this.#turned = all - count;
-    const canScroll = delta < 0 ? state.scrollback < state.scrollbackLen : state.scrollback > 0;
-    if (!canScroll) return;
+    if (!this.#canScroll(state, -delta)) return;
     event.preventDefault();
     if (count !== 0) this.scrollRows(-count);
   }
 
+  /** Returns whether the display can be scrolled back, or forward if `count` is negative. */
+  #canScroll({ scrollback, scrollbackLen }, count) {
+    return count > 0 ? scrollback < scrollbackLen : scrollback > 0;
+  }
+
   #keyDown(event) {
-    if (!event.shiftKey || event.ctrlKey || event.altKey || event.metaKey || event.defaultPrevented) return;
+    if (event.defaultPrevented || event.altKey) return;
+    if (isSelectAll(event)) {
+      event.preventDefault();
+      this.selectAll();
+    }
+    if (!event.shiftKey || event.ctrlKey || event.metaKey) return;
     const count = { PageUp: this.#rows, PageDown: -this.#rows, Home: Infinity, End: -Infinity }[event.key];
     if (count === undefined || !this.#state?.scrollbackLen) return;
     event.preventDefault();
@@ -363,67 +400,48 @@ export class TerminalView extends HTMLElement {
     return this.mouseReporting && mouseProtocolMode !== 0;
   }
 
+  /** Whether the view reacts to fingers. */
+  touchInput = true;
+
   get selectedRange() {
     return this.#selection.range;
   }
 
   get selectedText() {
-    const range = this.#selection.range;
-    return range === null || this.#stateOfScreen() === null ? "" : textBetween(this.#screen, range.start, range.end);
+    return this.#selection.text;
   }
 
   select(start, end) {
-    // Otherwise, what has changed since the last drawing would clear the selection.
-    this.draw();
-    this.#setSelection(start, end);
-  }
-
-  #setSelection(start, end) {
-    this.#selection.set(start, end);
-    this.#selectionChanged();
+    this.#selection.select(start, end);
   }
 
   selectAll() {
-    const state = this.#stateOfScreen();
-    if (state === null) return;
-    this.select({ row: 0, col: 0 }, { row: state.scrollbackLen + state.rows - 1, col: state.cols });
+    this.#selection.selectAll();
   }
 
   clearSelection() {
-    if (this.#selection.isEmpty) return;
     this.#selection.clear();
-    this.#selectionChanged();
   }
 
-  #selectionChanged() {
-    this.requestDraw();
-    this.#emit("selectionchange", { range: this.#selection.range });
-  }
-
-  /** Clears the selection if its text may have changed. */
-  #dropStaleSelection(before) {
-    if (this.#selection.isEmpty) return;
-    const { alternateScreen, scrollbackLen, scrollbackCapacity } = this.#state;
-    const isOther = before.alternateScreen !== alternateScreen || scrollbackLen < before.scrollbackLen;
-    // Once scrollback is full, rows are dropped, and the numbers of the others change.
-    const isUncertain = scrollbackLen === scrollbackCapacity && !this.#isSelectionDisplayed();
-    if (isOther || isUncertain || this.#hasSelectionChanged(before)) this.clearSelection();
-  }
-
-  #isSelectionDisplayed() {
-    const { start, end } = this.#selection.range, top = this.#topRow();
-    return start.row >= top && end.row < top + this.#rows;
-  }
-
-  /** Returns whether selected cells that were and are displayed have changed. */
-  #hasSelectionChanged(before) {
-    const top = this.#topRow(), moved = top - (before.scrollbackLen - before.scrollback);
-    for (let row = 0; row < this.#rows; row++) {
-      const columns = this.#selection.columnsOf(row + top, this.#cols), earlier = row + moved;
-      if (columns === null || earlier < 0 || earlier >= this.#rows) continue;
-      if (!hasEqualCells(this.#store.rowAt(row), this.#store.rowBefore(earlier), ...columns)) return true;
-    }
-    return false;
+  /** Returns what a selection needs of the view. */
+  #selectionHost() {
+    const view = this;
+    return {
+      get screen() {
+        return view.#stateOfScreen() === null ? null : view.#screen;
+      },
+      get state() {
+        return view.#state;
+      },
+      store: this.#store,
+      gridPoint: (x, y) => this.#gridPoint(x, y),
+      draw: () => this.draw(),
+      scrollRows: (count) => this.scrollRows(count),
+      selectionChanged: () => {
+        this.requestDraw();
+        this.#emit("selectionchange", { range: this.selectedRange });
+      },
+    };
   }
 
   /** Returns a point of the window as a row and a column of the display, which may have fractions or be outside. */
@@ -437,51 +455,39 @@ export class TerminalView extends HTMLElement {
     return row >= 0 && row < this.#rows && col >= 0 && col < this.#cols ? { row, col } : null;
   }
 
-  /** Returns what a click, double click or triple click at a point selects. */
-  #unitAt(x, y, clicks) {
-    const point = this.#gridPoint(x, y), shown = Math.min(Math.max(Math.floor(point.row), 0), this.#rows - 1);
-    const row = shown + this.#topRow(), col = Math.min(Math.max(point.col, 0), this.#cols);
-    if (clicks === 1) {
-      const position = { row, col: Math.round(col) };
-      return { start: position, end: position };
-    }
-    if (clicks === 2) {
-      const { start, end } = wordAt(this.#store.rowAt(shown), this.#cols, Math.floor(col));
-      return { start: { row, col: start }, end: { row, col: end } };
-    }
-    const { first, last } = lineOf(this.#screen, row);
-    return { start: { row: first, col: 0 }, end: { row: last, col: this.#cols } };
-  }
-
-  #pointerTarget() {
-    return {
-      unitAt: (x, y, clicks) => this.#unitAt(x, y, clicks),
-      rowsBeyond: (y) => {
-        const { row } = this.#gridPoint(0, y);
-        return row < 0 ? Math.floor(row) : Math.ceil(Math.max(row - this.#rows, 0));
-      },
-      select: (start, end) => this.#setSelection(start, end),
-      clearSelection: () => this.clearSelection(),
-      scrollRows: (count) => this.scrollRows(count),
-    };
-  }
-
   #mouseDown(event) {
     const state = this.#stateOfScreen();
-    if (state === null || this.#state === null || event.button !== 0 || this.#isForProgram(event, state)) return;
+    if (state === null || this.#state === null || this.#isForProgram(event, state)) return;
+    if (event.button === 2) this.#openMenu(event);
+    if (event.button !== 0) return;
     // The default action would select the text around the element.
     event.preventDefault();
     this.focus({ preventScroll: true });
     // While events go to the program, Shift means that they are the view's.
-    this.#pointer.begin(event, event.shiftKey && !this.#isReporting(state));
-    const move = (moved) => this.#pointer.move(moved);
-    const end = () => {
-      this.#pointer.end();
-      removeEventListener("mousemove", move);
-      removeEventListener("mouseup", end);
+    this.#selection.beginWithMouse(event, event.shiftKey && !this.#isReporting(state));
+  }
+
+  /** Prepares for a context menu, for which some browsers send an event only when it is too late. */
+  #openMenu(event) {
+    if (!event.defaultPrevented) this.#copyArea.show(event, this.getBoundingClientRect());
+  }
+
+  /** Returns what fingers need of the view. */
+  #touchTarget() {
+    const view = this;
+    return {
+      get isActive() {
+        return view.touchInput && view.#state !== null && view.#stateOfScreen() !== null;
+      },
+      get cellHeight() {
+        return view.cellHeight;
+      },
+      canScroll: (count) => this.#canScroll(this.#state, count),
+      scrollRows: (count) => this.scrollRows(count),
+      begin: (point) => this.#selection.begin(point, false),
+      move: (point) => this.#selection.move(point),
+      end: () => this.#selection.end(),
     };
-    addEventListener("mousemove", move);
-    addEventListener("mouseup", end);
   }
 
   #copy(event) {

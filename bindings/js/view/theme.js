@@ -1,26 +1,26 @@
+import { optionsAmong } from "../lib/errors.js";
+import { BACKGROUND, DIM_OPACITY, FOREGROUND, checkTheme, paletteOf } from "../lib/palette.js";
 import { BGCOLOR, CELL_SIZE, FGCOLOR, INVERSE, flagsAt } from "./cells.js";
 
-const NAMED = [
-  "#000000", "#cd3131", "#0dbc79", "#c5b000", "#2472c8", "#bc3fbc", "#11a8cd", "#d5d5d5",
-  "#666666", "#f14c4c", "#23d18b", "#f5f543", "#3b8eea", "#d670d6", "#29b8db", "#ffffff",
+const NAMES = [
+  "foreground", "background", "cursor", "cursorText", "selection", "selectionText", "dimOpacity", "palette",
 ];
 
-/** Returns the color of a palette index from 16 on: xterm's 6x6x6 cube, followed by 24 grays. */
-function indexedColor(index) {
-  if (index >= 232) {
-    const gray = 8 + 10 * (index - 232);
-    return `rgb(${gray},${gray},${gray})`;
-  }
-  const level = (part) => (part === 0 ? 0 : 55 + 40 * part), offset = index - 16;
-  return `rgb(${level(Math.floor(offset / 36))},${level(Math.floor(offset / 6) % 6)},${level(offset % 6)})`;
-}
+/** The palette's first 16 colors on a white background, on which all but white and bright white are legible as text. */
+const ON_WHITE = [
+  "#000000", "#b02020", "#0a7a40", "#7a6400", "#1f5fb8", "#9a2a9a", "#0b7285", "#d5d5d5",
+  "#666666", "#c62f2f", "#0d8046", "#8a6d00", "#2a6fd0", "#b035b0", "#0f7b91", "#ffffff",
+];
 
 /** The colors of a view. A theme does not change; to change colors, assign another theme to the view. */
 export class Theme {
-  constructor({
-    foreground = "#d4d4d4", background = "#101010", cursor = foreground, cursorText = background,
-    selection = "#355070", selectionText = null, dimOpacity = 0.6, palette = [],
-  } = {}) {
+  constructor(colors = {}) {
+    const {
+      foreground = FOREGROUND, background = BACKGROUND, cursor = foreground, cursorText = background,
+      selection = "#355070", selectionText = null, dimOpacity = DIM_OPACITY, palette = [],
+    } = optionsAmong(NAMES, colors);
+    const given = { foreground, background, cursor, cursorText, selection, ...(selectionText === null ? {} : { selectionText }) };
+    checkTheme(given, { dimOpacity, palette });
     this.foreground = foreground;
     this.background = background;
     this.cursor = cursor;
@@ -28,13 +28,12 @@ export class Theme {
     this.selection = selection;
     this.selectionText = selectionText;
     this.dimOpacity = dimOpacity;
-    this.palette = Object.freeze(Array.from({ length: 256 }, (_, index) =>
-      palette[index] ?? (index < 16 ? NAMED[index] : indexedColor(index))));
+    this.palette = paletteOf(palette);
     Object.freeze(this);
   }
 
   static dark = new Theme();
-  static light = new Theme({ foreground: "#202020", background: "#ffffff", selection: "#b5d5ff" });
+  static light = new Theme({ foreground: "#202020", background: "#ffffff", selection: "#b5d5ff", palette: ON_WHITE });
 
   /** Returns the theme in the header of a recording (`fg`, `bg` and `palette`, joined by colons), or `fallback`. */
   static fromCast(header, fallback = Theme.dark) {

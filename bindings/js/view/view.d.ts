@@ -45,7 +45,8 @@ export interface SelectedRange {
   readonly end: Position;
 }
 
-export interface ViewEventMap {
+/** The events of a view: those of every element, and its own. */
+export interface ViewEventMap extends HTMLElementEventMap {
   /** The display was scrolled, by a person or by output, or the number of scrollback rows has changed. */
   scrollbackchange: CustomEvent<{ scrollback: number; scrollbackLen: number }>;
   selectionchange: CustomEvent<{ range: SelectedRange | null }>;
@@ -73,14 +74,17 @@ export declare class TerminalView extends HTMLElement {
   draw(): number;
   /** Draws what has changed before the next frame. Many calls between two frames are one drawing. */
   requestDraw(): void;
-  /** Draws all rows, as after a font has been loaded, and returns their number. */
+  /** Measures the font again, draws all rows, and returns their number. When a font of the page's style has been loaded,
+      the view does so by itself. */
   redraw(): number;
 
   /** The colors. Also accepts an object, of which it makes a Theme. */
   get theme(): Theme;
-  set theme(theme: Theme);
+  set theme(theme: Theme | ThemeColors);
+  /** The size in CSS pixels. A value that is not positive is a RangeError; in the attribute, it stands for 16. */
   fontSize: number;
   fontFamily: string;
+  /** A factor, which must be positive. */
   lineHeight: number;
   /**
    * "none": the font has its size. "width": it is the largest with which the columns fit in the element. "both": it is
@@ -102,6 +106,9 @@ export declare class TerminalView extends HTMLElement {
   /** Whether the page sends mouse events to programs that request them. The view then leaves those events alone, unless
       Shift is pressed. The default is false. */
   mouseReporting: boolean;
+  /** Whether the view reacts to fingers: one that moves up or down scrolls, and a long press selects. The default is
+      true. */
+  touchInput: boolean;
 
   /** The selected range, or null. */
   readonly selectedRange: SelectedRange | null;
@@ -139,11 +146,14 @@ export interface CastEvent {
   readonly cols?: number;
 }
 
-/** A recording of version 2 or 3 of asciinema's format. */
+/** A recording of version 1, 2 or 3 of asciinema's format. */
 export declare class Cast {
-  /** Parses the text of a recording. Throws a SyntaxError with the number of the line if it is damaged. */
+  /** Parses the text of a recording. Throws a SyntaxError with the number of the line if it is damaged, or if a terminal
+      has more than 2000 rows or columns, or 250,000 cells. */
   constructor(text: string);
-  readonly version: 2 | 3;
+  readonly version: 1 | 2 | 3;
+  /** Whether the last line was cut off, as that of a recorder that was killed. The line is then ignored. */
+  readonly isCutOff: boolean;
   readonly rows: number;
   readonly cols: number;
   readonly title: string;
@@ -170,7 +180,7 @@ export interface CastPlayerOptions {
  * seeked, timeupdate and ratechange. The event screenchange says that the screen is to be drawn.
  */
 export declare class CastPlayer extends EventTarget {
-  constructor(vt100: Pick<Vt100, "Parser">, cast: Cast, options?: CastPlayerOptions);
+  constructor(vt100: Pick<Vt100, "Parser" | "Charsets">, cast: Cast, options?: CastPlayerOptions);
   readonly cast: Cast;
   /** The parser, which is the same one throughout. */
   readonly parser: Parser;
@@ -188,6 +198,9 @@ export declare class CastPlayer extends EventTarget {
   pause(): void;
   /** Displays the screen of a time, from the last saved screen before it. */
   seek(seconds: number): void;
+  /** Pauses, and goes to the next time at which there is output or a resize, or to the last one before if `count` is
+      negative. Throws a RangeError if `count` is 0. */
+  step(count: number): void;
   /** Frees the parser and the saved screens. */
   free(): void;
 }
@@ -195,18 +208,24 @@ export declare class CastPlayer extends EventTarget {
 /**
  * An element that plays a recording, with controls: `<vt100-player src="session.cast">`.
  *
- * Attributes: `src`, `autoplay`, `idle-time-limit` (seconds), and those of `<vt100-view>`. Events: those of CastPlayer
- * other than screenchange, `loadeddata`, and `error` with a message.
+ * Attributes: `src`, `autoplay`, `loop`, `poster` (the time of the screen that is displayed before playing, in seconds or
+ * as `m:ss`), `idle-time-limit` (seconds), and those of `<vt100-view>`. Events: those of CastPlayer other than
+ * screenchange, `loadeddata`, and `error` with a message.
+ *
+ * Keys, while the view has the focus: space plays or pauses; the arrows move by 5 seconds, with Shift by a tenth of the
+ * recording; a digit goes to that tenth; `[` and `]` go to a marker, `,` and `.` to the output before or after; `f` is for
+ * fullscreen; and `?` lists the keys. A screen reader announces changes only while the recording is paused.
  */
 export declare class CastPlayerElement extends HTMLElement {
   /** The library; by default the one that `load` of ../vt100.js returns. */
-  vt100: Pick<Vt100, "Parser"> | null;
-  /** The URL of the recording. Assigning it loads the recording. */
+  vt100: Pick<Vt100, "Parser" | "Charsets"> | null;
+  /** The URL of the recording. Assigning it loads the recording, in place of one that is still loaded. With null, the
+      recording stays. */
   src: string | null;
   readonly view: TerminalView;
   /** The player of the loaded recording, or null. */
   readonly player: CastPlayer | null;
-  /** Loads a recording from a URL. */
+  /** Loads a recording from a URL. Is rejected with an AbortError if another one is loaded before. */
   load(url: string): Promise<void>;
   /** Displays a recording. The property `vt100` must be set. */
   open(recording: string | Cast): void;
@@ -214,11 +233,19 @@ export declare class CastPlayerElement extends HTMLElement {
   pause(): void;
   /** Plays or pauses. */
   toggle(): void;
+  /** Begins or ends fullscreen. Is rejected with a TypeError if the browser refuses it. */
+  toggleFullscreen(): Promise<void>;
+  /** Shows or hides the list of keys. */
+  toggleHelp(): void;
   seek(seconds: number): void;
   currentTime: number;
   readonly duration: number;
   readonly paused: boolean;
   readonly ended: boolean;
+  /** Whether playing begins again at the end (the attribute `loop`). */
+  loop: boolean;
+  /** How many times as fast as recorded it plays. It is kept for later recordings. Throws a RangeError unless it is
+      positive. */
   playbackRate: number;
 }
 

@@ -16,6 +16,11 @@ export { CastPlayer } from "./cast_player.js";
 export { CastPlayerElement, TerminalView };
 export { Theme } from "./theme.js";
 
-for (const [name, element] of [["vt100-view", TerminalView], ["vt100-player", CastPlayerElement]]) {
-  if (customElements.get(name) === undefined) customElements.define(name, element);
+/** Defines an element, unless the page has it. Without a page, such as on a server, there are no elements. */
+function define(name, element) {
+  const { customElements } = globalThis;
+  if (customElements?.get(name) === undefined) customElements?.define(name, element);
 }
+
+define("vt100-view", TerminalView);
+define("vt100-player", CastPlayerElement);

@@ -192,6 +192,19 @@ class Order(unittest.TestCase):
             self.assertIs(parser.callbacks, callbacks)
             calls.clear()
 
+    def test_one_object_may_have_both_callbacks_for_rows(self):
+        calls = []
+
+        class Rows(vt100.Callbacks):
+            def on_scroll(self, text, wrapped, alternate_screen):
+                calls.append(("text", text))
+
+            def on_scroll_row(self, row, alternate_screen):
+                calls.append(("row", row.text))
+
+        vt100.Parser(1, 9, callbacks=Rows()).process(b"a\r\nb\r\nc")
+        self.assertEqual(calls, [("text", "a"), ("row", "a"), ("text", "b"), ("row", "b")])
+
     def test_callbacks_are_an_object_of_the_class(self):
         for wrong in (Log, "text", lambda: None, [Log(), Log]):
             with self.assertRaisesRegex(TypeError, "Callbacks"):

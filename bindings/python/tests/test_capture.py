@@ -50,6 +50,31 @@ class Captures(unittest.TestCase):
         self.assertEqual(one.add_screen(first), "\na")
         self.assertEqual(other.add_screen(first), "\na")
 
+    def test_long_rows(self):
+        # as in the Rust bindings' test of long captures
+        piece = "\x1b[38;2;1;2;3m\u5b57" + "e\u0301" * 300 + "\x1b[m\n"
+        text = piece * 20 + "\x1b[1;31m" * 200 + "end"
+        self.assertEqual(list(capture.rows(text, 1000)), text.split("\n"))
+        self.assertEqual(list(capture.rows(text, 302)), text.split("\n"))
+        self.assertEqual(len(list(capture.rows(text, 301))), 41)
+        tall = "e" + "\u0301" * 10  # more bytes for a column than a first window has
+        rows = capture.rows(tall * 120, 50)
+        self.assertEqual(rows, [tall * 50, tall * 50, tall * 20])
+        self.assertEqual(capture.to_plain(text), ("\u5b57" + "e\u0301" * 300 + "\n") * 20 + "end")
+
+    def test_representations(self):
+        kept = []
+
+        class Keeping(vt100.Callbacks):
+            def on_scroll_row(self, row, alternate_screen):
+                kept.append(repr(row))
+
+        vt100.Parser(2, 3, callbacks=Keeping()).process(b"ab\r\ncdefg\r\n")
+        self.assertEqual(kept, ["<vt100.RowContents 'ab'>", "<vt100.RowContents 'cde', wrapped>"])
+        with vt100.Capture() as one:
+            self.assertEqual(repr(one), "<vt100.Capture>")
+        self.assertEqual(repr(one), "<vt100.Capture closed>")
+
     def test_a_row_can_be_used_only_in_its_callback(self):
         kept = []
 

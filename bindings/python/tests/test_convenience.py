@@ -55,6 +55,14 @@ class Cells(unittest.TestCase):
             texts = [[cell.text for cell in row] for row in screen.buffer]
             self.assertEqual(texts, [first, ["e"] + [""] * (cols - 1)])
 
+    def test_more_cells_than_are_remembered(self):
+        screen = vt100.Parser(100, 100)
+        numbers = range(10000)
+        screen.feed("".join(f"\x1b[38;2;0;{number // 256};{number % 256}mx" for number in numbers))
+        wanted = [(0, number // 256, number % 256) for number in numbers]
+        for _ in range(2):
+            self.assertEqual([cell.fgcolor for row in screen.buffer for cell in row], wanted)
+
     def test_a_buffer_keeps_what_it_has(self):
         screen = screen_of("a")
         buffer = screen.buffer
@@ -67,6 +75,8 @@ class Cells(unittest.TestCase):
         self.assertEqual(screen[1][2].text, "f")
         self.assertEqual(screen.buffer[1][2].text, "f")
         self.assertEqual(screen[-1, -3].text, "g")
+        self.assertEqual([cell.text for cell in screen[-3]], ["a", "b", "c"])
+        self.assertEqual((screen[-3, 0].text, screen[0, -3].text), ("a", "a"))
         for wrong in (3, -4, 65536, (0, 3), (0, -4), (3, 0), (0, 65536)):
             with self.assertRaises(IndexError):
                 screen[wrong]
@@ -221,6 +231,9 @@ class Equality(unittest.TestCase):
         for data in (
             "b",
             "a\x1b[1m",
+            "a\x1b[31m",
+            "a\x1b[41m",
+            "a\x1b[48;2;0;0;1m",
             "a\x1b[H",
             "\x1b[1ma\x1b[m",
             "a\x1b[?25l",

@@ -245,6 +245,20 @@ class Statuses(unittest.TestCase):
         self.assertEqual(parser.input_mode_diff(other), "")
         self.assertEqual(parser.input_mode_diff_bytes(other), b"")
 
+    def test_each_status_has_a_message(self):
+        # VT100_FAILED to VT100_NO_NUMBER in vt100.h
+        for status, message in (
+            (2, "ran out of memory in an earlier call"),
+            (4, "of a different kind"),
+            (5, "different sizes"),
+            (6, "closed"),
+            (7, "initialized already"),
+            (8, "no viewer number left"),
+            (9, "status 9"),
+        ):
+            with self.assertRaisesRegex(vt100.Error, message):
+                vt100._library.check(status)
+
     def test_only_screens_have_differences(self):
         for other in (None, "text", vt100.Mirror(2, 3)):
             with self.assertRaises(TypeError):

@@ -8,7 +8,7 @@ import shutil
 import sys
 import unittest
 
-from vt100.testing import Terminal
+from patient import Terminal
 
 FOLDER = os.path.join(os.path.dirname(os.path.abspath(__file__)), "..", "examples")
 PROGRAM = "printf '\\033[1;31mred\\033[m '; read -r line; printf '\\033[3;5Hgot %s' \"$line\"; read -r line"

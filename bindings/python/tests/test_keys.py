@@ -1,11 +1,44 @@
 """Tests of what is sent for keys and for the mouse, as xterm's control sequences document says."""
 
+import os
 import unittest
 
 import vt100
 from vt100 import MouseProtocolEncoding as Encoding
 from vt100 import MouseProtocolMode as Mode
-from vt100._keys import key_bytes, mouse_bytes
+from vt100 import _keys
+from vt100._keys import KEYS, key_bytes, mouse_bytes, paste_text
+
+JAVASCRIPT = os.path.join(os.path.dirname(__file__), "..", "..", "js", "keys.js")
+
+
+# xterm's control sequences, "VT100-style keypad": what keys send with NumLock, and after ESC O.
+KEYPAD = {
+    "keypad_0": ("0", "p"), "keypad_1": ("1", "q"), "keypad_2": ("2", "r"), "keypad_3": ("3", "s"),
+    "keypad_4": ("4", "t"), "keypad_5": ("5", "u"), "keypad_6": ("6", "v"), "keypad_7": ("7", "w"),
+    "keypad_8": ("8", "x"), "keypad_9": ("9", "y"), "keypad_multiply": ("*", "j"),
+    "keypad_add": ("+", "k"), "keypad_comma": (",", "l"), "keypad_subtract": ("-", "m"),
+    "keypad_decimal": (".", "n"), "keypad_divide": ("/", "o"), "keypad_enter": ("\r", "M"),
+    "keypad_equal": ("=", "X"),
+}
+
+
+class Pasted(unittest.TestCase):
+    def test_controls_but_tab_and_newlines_are_removed(self):
+        kept = {"\t": "\t", "\n": "\r", "\r": "\r"}
+        for code in range(0x100):
+            is_control = code < 0x20 or 0x7F <= code < 0xA0
+            expected = kept.get(chr(code), "") if is_control else chr(code)
+            for is_bracketed, form in ((False, "a{}b"), (True, "\x1b[200~a{}b\x1b[201~")):
+                with self.subTest(code=code, is_bracketed=is_bracketed):
+                    text = paste_text(f"a{chr(code)}b", is_bracketed)
+                    self.assertEqual(text, form.format(expected))
+        self.assertEqual(paste_text("a\r\n\x03b\n\U0001f600", False), "a\rb\r\U0001f600")
+
+    @unittest.skipUnless(os.path.exists(JAVASCRIPT), "there is no keys.js")
+    def test_javascript_has_the_same_list(self):
+        with open(JAVASCRIPT, encoding="utf-8") as file:
+            self.assertIn(f"UNPASTED = /{_keys._UNPASTED.pattern}/g;", file.read())
 
 
 class Keys(unittest.TestCase):
@@ -41,13 +74,75 @@ class Keys(unittest.TestCase):
         ):
             self.assertEqual(key_bytes(key, False), sent, key)
 
+    def test_each_key(self):
+        # xterm's control sequences, "PC-Style Function Keys", and its other keys
+        sent = {
+            "enter": "\r", "tab": "\t", "escape": "\x1b", "backspace": "\x7f", "space": " ",
+            "up": "\x1b[A", "down": "\x1b[B", "right": "\x1b[C", "left": "\x1b[D", "home": "\x1b[H",
+            "end": "\x1b[F", "insert": "\x1b[2~", "delete": "\x1b[3~", "page_up": "\x1b[5~",
+            "page_down": "\x1b[6~", "f1": "\x1bOP", "f2": "\x1bOQ", "f3": "\x1bOR", "f4": "\x1bOS",
+            "f5": "\x1b[15~", "f6": "\x1b[17~", "f7": "\x1b[18~", "f8": "\x1b[19~", "f9": "\x1b[20~",
+            "f10": "\x1b[21~", "f11": "\x1b[23~", "f12": "\x1b[24~", "begin": "\x1b[E",
+            **{name: text for name, (text, _) in KEYPAD.items()},
+        }
+        self.assertEqual(KEYS, sent)
+        for key, text in sent.items():
+            self.assertEqual(key_bytes(key, False), text.encode(), key)
+
+    def test_the_keypad_depends_on_its_mode_and_on_modifiers(self):
+        for name, (text, final) in KEYPAD.items():
+            self.assertEqual(key_bytes(name, True, True), b"\x1bO" + final.encode(), name)
+            self.assertEqual(key_bytes(name, True, False), text.encode(), name)
+            self.assertEqual(key_bytes(f"alt-{name}", True, True), b"\x1b" + text.encode(), name)
+        for name in ("7", "home", "enter"):
+            self.assertEqual(key_bytes(name, False, True), key_bytes(name, False), name)
+        self.assertEqual(key_bytes("begin", True, True), b"\x1bOE")
+        self.assertEqual(key_bytes("ctrl-begin", True), b"\x1b[1;5E")
+
+    def test_other_names(self):
+        for key, same in (
+            ("esc", "escape"),
+            ("Esc", "escape"),
+            ("return", "enter"),
+            ("Return", "enter"),
+            ("pageup", "page_up"),
+            ("pagedown", "page_down"),
+            ("PageDown", "page_down"),
+            ("pgup", "page_up"),
+            ("pgdn", "page_down"),
+            ("ins", "insert"),
+            ("del", "delete"),
+            ("F12", "f12"),
+            ("C-c", "ctrl-c"),
+            ("M-x", "alt-x"),
+            ("S-Up", "shift-up"),
+            ("C-M-S-pgdn", "ctrl-alt-shift-page_down"),
+            ("Ctrl-Alt-Delete", "ctrl-alt-delete"),
+        ):
+            self.assertEqual(key_bytes(key, True), key_bytes(same, True), key)
+        self.assertNotEqual(key_bytes("X", False), key_bytes("x", False))
+
+    def test_modifiers_that_change_nothing(self):
+        for key, sent in (
+            ("shift-escape", b"\x1b"),
+            ("ctrl-escape", b"\x1b"),
+            ("shift-enter", b"\r"),
+            ("ctrl-enter", b"\r"),
+            ("ctrl-tab", b"\t"),
+            ("shift-backspace", b"\x7f"),
+            ("shift-space", b" "),
+            ("ctrl-backspace", b"\x08"),
+            ("alt-escape", b"\x1b\x1b"),
+        ):
+            self.assertEqual(key_bytes(key, False), sent, key)
+
     def test_only_cursor_keys_without_modifiers_depend_on_the_mode(self):
         self.assertEqual(key_bytes("up", True), b"\x1bOA")
         self.assertEqual(key_bytes("shift-up", True), b"\x1b[1;2A")
         self.assertEqual(key_bytes("delete", True), b"\x1b[3~")
 
     def test_unknown_keys(self):
-        for key in ("no_key", "meta-a", "ctrl-", "ctrl-no_key", "up-ctrl", "ctrl-1"):
+        for key in ("no_key", "meta-a", "ctrl-", "ctrl-no_key", "up-ctrl", "ctrl-1", "c-c", "x-up", "C-", "hello"):
             with self.assertRaisesRegex(ValueError, key):
                 key_bytes(key, False)
 
@@ -63,6 +158,9 @@ class Mouse(unittest.TestCase):
         self.assertEqual(self.sent("move"), b"\x1b[<32;5;3M")
         self.assertEqual(self.sent("move", "none"), b"\x1b[<35;5;3M")
         self.assertEqual(self.sent("press", "ctrl-shift-middle"), b"\x1b[<21;5;3M")
+        self.assertEqual(self.sent("press", "alt-left"), b"\x1b[<8;5;3M")
+        self.assertEqual(self.sent("press", "shift-left"), b"\x1b[<4;5;3M")
+        self.assertEqual(self.sent("press", "ctrl-wheel_up"), b"\x1b[<80;5;3M")
 
     def test_default_and_utf8(self):
         for encoding in (Encoding.DEFAULT, Encoding.UTF8):
@@ -72,8 +170,16 @@ class Mouse(unittest.TestCase):
         self.assertEqual(
             self.sent("press", encoding=Encoding.UTF8, at=at), b"\x1b[M " + chr(332).encode() + b"#"
         )
-        with self.assertRaisesRegex(ValueError, "no positions after 222"):
-            self.sent("press", encoding=Encoding.DEFAULT, at=at)
+        for encoding, last, sent in (
+            (Encoding.DEFAULT, 222, b"\xff"),
+            (Encoding.UTF8, 2014, chr(2047).encode()),
+        ):
+            for row, col in ((last, 4), (2, last)):
+                place = [sent if number == last else bytes([33 + number]) for number in (col, row)]
+                found = self.sent("press", encoding=encoding, at=(row, col))
+                self.assertEqual(found, b"\x1b[M " + b"".join(place))
+            with self.assertRaisesRegex(ValueError, f"no positions after {last}"):
+                self.sent("press", encoding=encoding, at=(2, last + 1))
 
     def test_events_that_were_not_requested(self):
         for action, button, mode in (

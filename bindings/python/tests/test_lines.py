@@ -1,11 +1,10 @@
-"""Tests of rows that scroll off, which are reported in bulk where the input consists of lines."""
+"""Tests of rows that scroll off, which are reported in bulk if no other callback is overridden."""
 
 import random
 import unittest
 from unittest import mock
 
 import vt100
-from vt100 import _lines
 
 
 class Rows(vt100.Callbacks):
@@ -20,7 +19,7 @@ class Rows(vt100.Callbacks):
 
 
 class Everything(Rows):
-    """Callbacks one of which has to be invoked at its byte, so that nothing is done in bulk."""
+    """Callbacks one of which is passed the screen, so that each is invoked at its byte."""
 
     def unhandled_char(self, screen, char):
         pass
@@ -95,12 +94,44 @@ class Bulk(unittest.TestCase):
         self.assertEqual(len(rows.calls), 5000 - 23)
         self.assertLess(len(calls), 500)
 
+    def test_rows_wait_only_if_no_other_callback_is_overridden(self):
+        class Seeing(vt100.Callbacks):
+            def on_scroll(self, text, wrapped, alternate_screen):
+                seen.append((text, parser.contents()))
+
+        class Hearing(Seeing):
+            def audible_bell(self, screen):
+                pass
+
+        for callbacks, first, second in (
+            (Seeing(), "three\nfour", "three\nfour"),
+            (Hearing(), "two", "three"),
+            ([Seeing(), vt100.Callbacks()], "three\nfour", "three\nfour"),
+        ):
+            seen = []
+            parser = vt100.Parser(2, 10, callbacks=callbacks)
+            parser.process(b"one\r\ntwo\r\n\x07\x1b[31mthree\r\nfour")
+            self.assertEqual(seen, [("one", first), ("two", second)])
+
     def test_no_row_is_lost(self):
-        for line in (b"\n", b"\x1b[1m\n", "\u5b57".encode() * 700, b"\t" * 9 + b"xxxxxxxx"):
+        text = b"\x1b[1m\n", "\u5b57".encode() * 700, b"\t" * 9 + b"xxxxxxxx"
+        for line in (b"\n", b"\x1b[S\x1b[2S\x1b]2;title\x07", *text):
             for size in ((24, 80), (2, 1000), (1, 65535), (3, 1)):
                 rows = Rows()
                 vt100.Parser(*size, callbacks=rows).process(line * 3000)
                 self.assertNotIn("lost", rows.calls, (line[:3], size))
+
+    def test_a_sequence_of_an_earlier_call_is_reported_at_its_byte(self):
+        class Sized(Rows):
+            def resize(self, screen, rows, cols):
+                self.calls.append((rows, cols, screen.contents()))
+
+        rows = Sized()
+        parser = vt100.Parser(2, 20, callbacks=rows)
+        parser.process(b"one\r\n\x1b[8;3")
+        parser.process(b";7ttwo\r\nthree\r\n")
+        gone = [("one", False, False), ("two", False, False)]
+        self.assertEqual(rows.calls, [(3, 7, "one"), *gone])
 
     def test_an_exception_may_leave_a_sequence_unfinished(self):
         class Failing(Rows):
@@ -118,15 +149,6 @@ class Bulk(unittest.TestCase):
         rows.is_failing = False
         parser.process(b"more\r\nlines\r\n\r\n")
         self.assertNotIn("lost", rows.calls)
-
-
-class Ground(unittest.TestCase):
-    def test_what_ends_in_the_ground_state(self):
-        for data in (b"text", b"\x1b[1mx", b"\x1bc", b"\x1b(B", b"\x1b]2;t\x07x", b"a\x1b[?25l\r\n"):
-            self.assertTrue(_lines.is_ground(data, True), data)
-        self.assertFalse(_lines.is_ground(b"text", False))
-        for data in (b"\x1b", b"x\x1b[", b"\x1b[3", b"\x1b]2;t", b"\x1bPx", b"\x1b(", b"\x1b_x", b"\x1b[1\n"):
-            self.assertFalse(_lines.is_ground(data, True), data)
 
 
 if __name__ == "__main__":

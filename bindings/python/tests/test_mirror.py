@@ -25,6 +25,20 @@ class Viewers(unittest.TestCase):
         self.assertEqual(mirror.update(viewer), vt100.Update(""))
         mirror.leave(viewer)
 
+    def test_scrollback_comes_back_when_the_screen_grows(self):
+        for capacity, rows in (
+            (0, ["", "", "3", "4"]),
+            (1, ["", "2", "3", "4"]),
+            (0x10000, ["1", "2", "3", "4"]),
+            ((1 << 64) - 1, ["1", "2", "3", "4"]),
+        ):
+            mirror = vt100.Mirror(2, 8, capacity)
+            mirror.process(b"1\r\n2\r\n3\r\n4")
+            mirror.set_size(4, 8)
+            terminal = vt100.Parser(4, 8)
+            terminal.feed(mirror.update(mirror.join()).text)
+            self.assertEqual(terminal.rows(), rows, capacity)
+
     def test_runs_are_repeated_if_the_options_allow_it(self):
         mirror = vt100.Mirror(2, 20)
         viewer = mirror.join()

@@ -89,10 +89,11 @@ class Names(unittest.TestCase):
         self.assertFalse(parser.dirty)
 
     def test_reset(self):
-        parser = fed("\x1b]2;t\x07\x1b[1;31m1\r\n2\r\n3\r\n4\x1b[?25l\x1b[?1049h\x1b]2;unfinished", 3, 10, 5)
+        parser = fed("\x1b]0;t\x07\x1b[1;31m1\r\n2\r\n3\r\n4\x1b[?25l\x1b[?1049h\x1b]2;unfinished", 3, 10, 5)
         parser.reset()
         self.assertEqual(parser, vt100.Parser(3, 10))
-        self.assertEqual((parser.title, parser.scrollback_len, parser.pending_len), ("", 0, 0))
+        self.assertEqual((parser.title, parser.icon_name), ("", ""))
+        self.assertEqual((parser.scrollback_len, parser.pending_len), (0, 0))
         self.assertEqual(parser.scrollback_capacity, 5)
         parser.feed("a")
         self.assertEqual(parser.contents(), "a")
@@ -121,6 +122,7 @@ class History(unittest.TestCase):
         self.assertEqual(history.rows(), ["one", "two", "three"])
         self.assertEqual(history.rows(-2), ["two", "three"])
         self.assertEqual(history.rows(0, 1), ["one"])
+        self.assertEqual(repr(history), "<vt100.History of 3 rows>")
         for wrong in (3, -4):
             with self.assertRaisesRegex(IndexError, "row %d of a history of 3 rows" % wrong):
                 history[wrong]

@@ -1,9 +1,13 @@
 """Runs the programs for Python in the documents of the bindings."""
 
 import os
+import re
 import shutil
 import textwrap
 import unittest
+
+from vt100._keys import _OTHER_NAMES, _SHORT_MODIFIERS
+from vt100.testing import KEYS
 
 FOLDER = os.path.join(os.path.dirname(os.path.abspath(__file__)), os.pardir)
 README = os.path.join(FOLDER, "README.md")
@@ -35,6 +39,14 @@ class Documents(unittest.TestCase):
             self.addCleanup(os.chdir, before)
             os.chdir(FOLDER)
             names["test_less_shows_the_end"]()
+
+    def test_each_key_is_named(self):
+        with open(README, encoding="utf-8") as file:
+            text = file.read()
+        names = [name for name in KEYS if not re.fullmatch(r"f\d+|keypad_\d", name)]
+        modifiers = [f"{name}-" for name in _SHORT_MODIFIERS]
+        for name in [*names, *_OTHER_NAMES, *modifiers, "f1` to `f12", "keypad_0` to `keypad_9"]:
+            self.assertIn(f"`{name}`", text)
 
     @unittest.skipUnless(os.path.exists(BINDINGS), "not in a checkout")
     def test_readme_of_the_bindings(self):

@@ -113,6 +113,12 @@ class Scrollback(unittest.TestCase):
     def test_no_more_rows_are_kept_than_the_capacity(self):
         self.assertEqual(screen_of(b"\n" * 20, 2, 5, 3).scrollback_len, 3)
 
+    def test_a_capacity_of_more_than_16_bits(self):
+        parser = screen_of(b"1\r\n2\r\n3", 2, 5, 0x10000)
+        self.assertEqual((parser.scrollback_capacity, parser.scrollback_len), (0x10000, 1))
+        for capacity in (0x10001, 1 << 32, (1 << 64) - 1):
+            self.assertEqual(vt100.Parser(2, 5, capacity).scrollback_capacity, capacity)
+
 
 #: U+231A, a wide character that U+FE0E and U+FE0F make narrow.
 NARROWED = "\u231a\ufe0e\ufe0f"
@@ -361,6 +367,9 @@ class Texts(unittest.TestCase):
         self.assertEqual((screen.contents(), screen.cursor), ("", (2, 0)))
         stops = vt100.TERMINAL_SETUP.count("\x1b[8C\x1bH")
         self.assertEqual((stops, vt100.TERMINAL_SETUP.count("\x1bH")), (40, 40))
+        # Synchronized updates, national characters, and bidirectional text in the program's order.
+        for end in ("\x1b[?2026l", "\x1b[?42l", "\x1b[8h", "\x1b[0 k"):
+            self.assertIn(end, vt100.TERMINAL_SETUP)
 
     def test_what_a_terminal_is_left_with(self):
         modes = b"\x1b[1;31m\x1b[?25l\x1b=\x1b[?1;2004h\x1b[5 q"

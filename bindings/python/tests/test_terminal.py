@@ -1,6 +1,9 @@
 """Tests of what `vt100.testing.Terminal` does besides keys and waits."""
 
+import functools
 import gc
+import importlib.util
+import operator
 import os
 import pickle
 import re
@@ -13,7 +16,9 @@ import warnings
 
 import vt100
 from vt100 import testing
-from vt100.testing import Terminal, WaitFailed, diff
+from vt100.testing import WaitFailed, diff
+
+from patient import Terminal
 
 PYTHON = [sys.executable, "-S", "-u", "-c"]
 
@@ -42,7 +47,7 @@ class Terminfo(unittest.TestCase):
     CODE = "import os; print(os.environ['TERM'], os.environ.get('TERMINFO'))"
 
     def test_programs_get_the_entry_of_this_terminal(self):
-        if testing._terminfo.entry()[0] != "caldrosk-256color":
+        if testing.terminfo.entry()[0] != "caldrosk-256color":
             self.skipTest("no compiled entry, and no tic")
         if shutil.which("tput") is None:
             self.skipTest("no tput")
@@ -54,6 +59,11 @@ class Terminfo(unittest.TestCase):
         with Terminal([*PYTHON, self.CODE], term="dumb", env={"TERMINFO": "/mine"}) as terminal:
             terminal.wait_end()
             self.assertEqual(terminal.screen.contents(), "dumb /mine")
+        for term, wanted in ((None, "linux /mine"), ("dumb", "dumb /mine")):
+            env = {"TERM": "linux", "TERMINFO": "/mine"}
+            with Terminal([*PYTHON, self.CODE], term=term, env=env) as terminal:
+                terminal.wait_end()
+                self.assertEqual(terminal.screen.contents(), wanted)
 
 
 class Commands(unittest.TestCase):
@@ -131,15 +141,20 @@ class Waits(unittest.TestCase):
         self.assertRegex(message, r"test_terminal.py, line \d+\), .*\"never\" in screen.contents\(\)")
         self.assertIn("not done within 0.25 seconds\nscreen of 24x80", message)
 
+    def test_a_failure_names_an_object_that_is_called(self):
+        with Terminal([*PYTHON, "print('only')"]) as terminal:
+            with self.assertRaisesRegex(WaitFailed, r"waiting for functools.partial\(.*: the program has ended"):
+                terminal.wait_for(functools.partial(operator.eq, None))
+
     def test_quiet(self):
         code = "import time\nfor n in range(5): print(n); time.sleep(0.1)\ntime.sleep(100)"
         with Terminal([*PYTHON, code]) as terminal:
-            screen = terminal.wait_quiet(1.0)
+            screen = terminal.wait_quiet(3.0)
             self.assertEqual(screen.contents(), "0\n1\n2\n3\n4")
         with Terminal([*PYTHON, "while True: print('y')"]) as terminal:
             terminal.wait_for("y")
-            with self.assertRaisesRegex(WaitFailed, "waiting for 0.2 seconds without output: not"):
-                terminal.wait_quiet(timeout=0.5)
+            with self.assertRaisesRegex(WaitFailed, "waiting for 2 seconds without output: not"):
+                terminal.wait_quiet(2, timeout=3)
 
     def test_a_failure_is_pickled(self):
         with Terminal([*PYTHON, "print('only')"], 2, 8) as terminal:
@@ -167,6 +182,9 @@ class Input(unittest.TestCase):
         terminal.wait_for(r"\x1b[<0;5;3m")
         terminal.click(0, 0, "wheel_up")
         terminal.wait_for(r"\x1b[<64;1;1M")
+        terminal.press("x")  # the next input: a wheel is not released
+        terminal.wait_for("b'x'")
+        self.assertNotIn(r"\x1b[<64;1;1m", terminal.screen.contents())
         with self.assertRaisesRegex(ValueError, "not requested"):
             terminal.mouse("move", 0, 0)
         with self.assertRaisesRegex(ValueError, "row 6, column 0 is not on a screen of 6x40"):
@@ -181,11 +199,22 @@ class Input(unittest.TestCase):
 
     def test_pasted_text(self):
         terminal = self.echo(b"\x1b[?2004h")
-        terminal.paste("a\nb")
+        terminal.paste("a\n\x1b\x03b")
         terminal.wait_for(r"\x1b[200~a\rb\x1b[201~")
+        terminal.paste("c\r\nd\re")
+        terminal.wait_for(r"\x1b[200~c\rd\re\x1b[201~")
 
 
 class Ends(unittest.TestCase):
+    def test_a_program_that_closes_its_terminal(self):
+        command = ["sh", "-c", "trap '' HUP; echo bye; exec sleep 100 <&- >&- 2>&-"]
+        with Terminal(command, 2, 10) as terminal:
+            terminal.wait_for("bye", timeout=60)
+            for wait in (lambda: terminal.wait_for("more"), lambda: terminal.wait_end(0.3)):
+                with self.assertRaisesRegex(WaitFailed, "the program has closed the terminal(.|\n)*bye"):
+                    wait()
+            self.assertIsNone(terminal.status)
+
     def test_calls_after_close(self):
         with Terminal("true") as terminal:
             terminal.wait_end()
@@ -207,12 +236,12 @@ class Ends(unittest.TestCase):
         with warnings.catch_warnings(record=True) as caught:
             warnings.simplefilter("always")
             terminal = Terminal("sleep 100", replies=True)
-            process = terminal._process
+            program = terminal._program
             del terminal
             gc.collect()
         self.assertEqual([one.category for one in caught], [ResourceWarning])
         self.assertIn("was not closed", str(caught[0].message))
-        self.assertIsNotNone(process.returncode)
+        self.assertIsNotNone(program.status)
         self.assertEqual(len(os.listdir("/proc/self/fd")), before)
 
     @unittest.skipUnless(os.path.isdir("/proc/self"), "no /proc")
@@ -237,7 +266,7 @@ class Ends(unittest.TestCase):
         opened = [os.open(os.devnull, os.O_RDONLY) for _ in range(1050)]
         try:
             with Terminal("cat") as terminal:
-                self.assertGreater(terminal._file, 1023)
+                self.assertGreater(terminal.fileno(), 1023)
                 terminal.send("hello\n")
                 terminal.wait_for("hello\nhello")
         finally:
@@ -268,9 +297,14 @@ class Differences(unittest.TestCase):
             left, right = self.screens(one, other)
             self.assertNotEqual(left, right)
             self.assertEqual(diff(left, right), said)
+        left, right = self.screens("".join(f"\x1b[{row}H{row}" for row in range(1, 41)), "", (40, 5))
+        lines = diff(left, right).split("\n")
+        rows = [line for line in lines if line.startswith("row ")]
+        self.assertEqual((rows[-1], lines[-1]), ("row 19:", "and more rows"))
         left, right = self.screens("", "", (3, 10), (2, 9))
         self.assertRegex(diff(left, right), r"^size: \(3, 10\) != \(2, 9\)")
 
+    @unittest.skipIf(importlib.util.find_spec("pytest") is None, "no pytest")
     def test_the_plugin_of_pytest(self):
         import vt100_pytest
 

@@ -1,13 +1,17 @@
 """Tests of vt100.testing, which runs programs in a terminal."""
 
 import os
+import shutil
 import signal
 import sys
 import time
 import unittest
+from unittest import mock
 
 import vt100
-from vt100.testing import KEYS, Terminal, WaitFailed, framed
+from vt100.testing import KEYS, WaitFailed, framed
+
+from patient import Terminal
 
 PYTHON = [sys.executable, "-S", "-u", "-c"]
 
@@ -28,7 +32,7 @@ class Programs(unittest.TestCase):
         code = "import os; print(*os.get_terminal_size(), os.environ['TERM'], os.isatty(0))"
         with Terminal([*PYTHON, code], 7, 33, term="vt100") as terminal:
             self.assertEqual(terminal.wait_end(), 0)
-            self.assertEqual(terminal.screen.size, (7, 33))
+            self.assertEqual((terminal.screen.size, terminal.screen.scrollback_capacity), ((7, 33), 0))
             self.assertEqual(terminal.screen.contents(), "33 7 vt100 True")
 
     def test_a_program_writes_with_colors(self):
@@ -43,11 +47,52 @@ class Programs(unittest.TestCase):
             self.assertEqual(screen.cell(1, 2), vt100.Cell("h"))
             self.assertIsNone(screen.cell(5, 0))
 
-    def test_environment_and_folder(self):
-        code = "import os; print(os.getcwd(), os.environ.get('ONE'), os.environ.get('HOME'))"
-        with Terminal([*PYTHON, code], env={"ONE": "1"}, cwd="/") as terminal:
+    def seen(self, names, **more):
+        """Returns the values of variables in the environment of a program."""
+        code = f"import os; print(*[os.environ.get(name) for name in {names!r}])"
+        with Terminal([*PYTHON, code], **more) as terminal:
+            self.assertEqual(terminal.wait_end(), 0)
+            return terminal.screen.contents().split()
+
+    def test_the_folder(self):
+        with Terminal([*PYTHON, "import os; print(os.getcwd())"], cwd="/") as terminal:
             terminal.wait_end()
-            self.assertEqual(terminal.screen.contents(), "/ 1 None")
+            self.assertEqual(terminal.screen.contents(), "/")
+
+    def test_the_environment_is_that_of_the_caller_with_changes(self):
+        names = ["ONE", "TWO", "THREE", "PATH"]
+        with mock.patch.dict(os.environ, {"ONE": "1", "TWO": "2", "PATH": "/usr/bin:/bin"}):
+            self.assertEqual(self.seen(names), ["1", "2", "None", "/usr/bin:/bin"])
+            self.assertEqual(
+                self.seen(names, env={"ONE": "one", "TWO": None, "THREE": "3"}),
+                ["one", "None", "3", "/usr/bin:/bin"],
+            )
+
+    def test_the_size_of_the_caller_is_not_passed_on(self):
+        names = ["LINES", "COLUMNS"]
+        with mock.patch.dict(os.environ, {"LINES": "7", "COLUMNS": "13"}):
+            self.assertEqual(self.seen(names), ["None", "None"])
+            self.assertEqual(self.seen(names, env={}), ["None", "None"])
+            self.assertEqual(self.seen(names, env={"COLUMNS": "99"}), ["None", "99"])
+
+    def locale(self, command, **given):
+        """Returns what a shell command prints with these variables of the locale."""
+        env = {"LC_ALL": None, "LC_CTYPE": None, "LANG": None, **given}
+        with Terminal(["sh", "-c", command], env=env) as terminal:
+            self.assertEqual(terminal.wait_end(), 0)
+            return terminal.screen.contents()
+
+    def test_the_encoding_is_utf8_unless_a_locale_is_chosen(self):
+        for given, wanted in (
+            ({}, "||C.UTF-8"),
+            ({"LANG": ""}, "||C.UTF-8"),
+            ({"LANG": "C"}, "|C|"),
+            ({"LC_CTYPE": "de_DE"}, "||de_DE"),
+            ({"LC_ALL": "POSIX"}, "POSIX||"),
+        ):
+            self.assertEqual(self.locale('echo "$LC_ALL|$LANG|$LC_CTYPE"', **given), wanted)
+        if shutil.which("locale"):
+            self.assertEqual(self.locale("locale charmap"), "UTF-8")
 
     def test_a_program_that_does_not_exist(self):
         with self.assertRaises(FileNotFoundError):
@@ -66,8 +111,7 @@ class Programs(unittest.TestCase):
         code += "print(end='ready')\ntime.sleep(1000)"
         with Terminal([*PYTHON, code]) as terminal:
             terminal.wait_for("ready")
-            process = terminal._process
-        self.assertEqual(process.returncode, -signal.SIGKILL)
+        self.assertEqual(terminal.status, -signal.SIGKILL)
         terminal.close()
 
     def test_callbacks_and_scrollback(self):
@@ -120,10 +164,23 @@ class Keys(unittest.TestCase):
         terminal.screen.process(b"\x1b[?1l")
         self.assert_sends(terminal, ["end"], r"\x1b[F")
 
+    def test_the_keypad_in_application_mode(self):
+        terminal = self.echo()
+        self.assert_sends(terminal, ["keypad_7"], "7")
+        terminal.screen.process(b"\x1b=")  # DECKPAM
+        self.assert_sends(terminal, ["keypad_7"], r"\x1bOw")
+        self.assert_sends(terminal, ["keypad_enter"], r"\x1bOM")
+        terminal.screen.process(b"\x1b>")  # DECKPNM
+        self.assert_sends(terminal, ["keypad_7"], "7")
+
     def test_an_unknown_key(self):
-        with self.assertRaisesRegex(ValueError, "'no_key'"):
-            self.echo().press("no_key")
-        self.assertEqual(len(KEYS), 27)
+        terminal = self.echo()
+        with self.assertRaises(ValueError) as failed:
+            terminal.press("x", "no_key", "y")
+        self.assertIn("no key is named 'no_key'", str(failed.exception))
+        self.assertIn(", ".join(KEYS), str(failed.exception))
+        self.assert_sends(terminal, ["z"], "z")
+        self.assertNotIn("\nx", terminal.screen.contents())  # nothing was sent
 
     def test_text_is_sent_to_a_program_that_reads(self):
         terminal = self.echo()
@@ -133,7 +190,7 @@ class Keys(unittest.TestCase):
             terminal.send("more")
         code = "import time, tty\ntty.setraw(0)\nprint(end='deaf')\ntime.sleep(1000)"
         with Terminal([*PYTHON, code], timeout=0.3) as terminal:
-            terminal.wait_for("deaf", timeout=10)
+            terminal.wait_for("deaf", timeout=60)
             with self.assertRaisesRegex(WaitFailed, "sending text: not done within 0.3 seconds"):
                 terminal.send(b"x" * 1000000)
 
@@ -158,7 +215,7 @@ class Waits(unittest.TestCase):
 
     def test_a_wait_fails_with_the_screen(self):
         with Terminal([*PYTHON, self.SLOW], 4, 12, timeout=0.5) as terminal:
-            terminal.wait_for("first", timeout=10)
+            terminal.wait_for("second", timeout=60)
             begin = time.monotonic()
             with self.assertRaises(WaitFailed) as failed:
                 terminal.wait_for("third")
@@ -197,6 +254,7 @@ class Waits(unittest.TestCase):
 
     def test_a_wait_for_the_end_fails(self):
         with Terminal([*PYTHON, self.SLOW]) as terminal:
+            terminal.wait_for("first", timeout=60)
             with self.assertRaisesRegex(WaitFailed, "end of the program(.|\n)*first"):
                 terminal.wait_end(timeout=0.7)
 

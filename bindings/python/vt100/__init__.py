@@ -38,10 +38,12 @@ from ._history import History
 from ._library import Error, library_version
 from ._object import BytesLike
 from ._options import Repeat
+from ._pictures import Theme
 from ._terminal import TERMINAL_RESTORE, TERMINAL_SETUP
 from ._version import __version__
 from .callbacks import Callbacks
 from .capture import Capture, RowContents
+from .charsets import Charsets
 from .mirror import BytesUpdate, Mirror, Update
 from .parser import Parser
 from .replies import Replies
@@ -54,6 +56,7 @@ __all__ = [
     "Callbacks",
     "Capture",
     "Cell",
+    "Charsets",
     "Color",
     "Cursor",
     "CursorStyle",
@@ -72,6 +75,7 @@ __all__ = [
     "Size",
     "TERMINAL_RESTORE",
     "TERMINAL_SETUP",
+    "Theme",
     "Update",
     "__version__",
     "capture",

@@ -25,8 +25,6 @@ NAMES = (
     "on_scroll",
 )
 ON_SCROLL = NAMES.index("on_scroll")
-UNHANDLED_CHAR = NAMES.index("unhandled_char")
-UNHANDLED_CSI = NAMES.index("unhandled_csi")
 
 _HEAD = struct.Struct("<BIIQ")
 _LENGTH = struct.Struct("<Q")

@@ -2,25 +2,18 @@
 
 from __future__ import annotations
 
+import ctypes
 import typing
-from typing import (
-    TYPE_CHECKING,
-    Callable,
-    Iterator,
-    List,
-    Optional,
-    SupportsIndex,
-    TypeVar,
-    Union,
-    overload,
-)
+from typing import TYPE_CHECKING, Iterator, List, Optional, SupportsIndex, Union, overload
 
-from ._cells import Cell
+from ._cells import CELL_SIZE, Cell, cells_of
+from ._library import library
 
 if TYPE_CHECKING:
     from .screen import Screen
 
-_Row = TypeVar("_Row")
+#: The cell that fills up a row that is shorter than the screen's rows.
+_BLANK = Cell("")
 
 #: The number of rows that are read at once by a loop.
 _PAGE = 1000
@@ -28,10 +21,11 @@ _PAGE = 1000
 
 class History(typing.Sequence[List[Cell]]):
     """The scrollback rows of a screen, from the oldest to the latest one, as lists of cells. A row
-    that is longer than the screen's rows has all of its cells.
+    that is longer than the screen's rows has all of its cells, and a shorter one is filled up with
+    blank cells.
 
     `history[-1]` is the row above the page, and slices are lists of rows. The history of the
-    alternate screen is empty. The display of the screen does not change.
+    alternate screen is empty. The screen does not change.
     """
 
     def __init__(self, screen: Screen) -> None:
@@ -51,24 +45,22 @@ class History(typing.Sequence[List[Cell]]):
     def __getitem__(
         self, place: Union[SupportsIndex, slice]
     ) -> Union[List[Cell], List[List[Cell]]]:
-        screen = self._screen
-        with screen._lock:
+        with self._screen._lock:
             length = len(self)
             if isinstance(place, slice):
-                return _read(screen, range(length)[place], length, _cells)
+                return _cells(self._screen, range(length)[place])
             try:
                 row = range(length)[place]
             except IndexError:
                 raise IndexError(f"row {place} of a history of {length} rows") from None
-            return _read(screen, range(row, row + 1), length, _cells)[0]
+            return _cells(self._screen, range(row, row + 1))[0]
 
     def rows(self, start: int = 0, stop: Optional[int] = None) -> List[str]:
         """Returns the plain text of the rows from `start` up to but excluding `stop`, or of all
         rows from `start` on if `stop` is None. Negative numbers count from the end."""
         with self._screen._lock:
-            length = len(self)
-            rows = range(length)[start:stop]
-            return _read(self._screen, rows, length, _texts)
+            rows = range(len(self))[start:stop]
+            return [self._screen._text(library.vt100_row_contents, row) for row in rows]
 
     def __iter__(self) -> Iterator[List[Cell]]:
         for start in range(0, len(self), _PAGE):
@@ -78,38 +70,19 @@ class History(typing.Sequence[List[Cell]]):
         return f"<vt100.History of {len(self)} rows>"
 
 
-def _read(
-    screen: Screen, rows: range, length: int, read: Callable[[Screen, int], List[_Row]]
-) -> List[_Row]:
-    """Returns what `read` returns for the given rows of a history: it reads the first displayed
-    rows of the screen, as many as it is asked for."""
-    if not rows:
-        return []
-    first, last = min(rows[0], rows[-1]), max(rows[0], rows[-1])
-    lines, shown = screen.lines, screen.scrollback
-    found: List[_Row] = []
-    try:
-        while len(found) <= last - first:
-            top = first + len(found)
-            screen.set_scrollback(length - top)
-            found += read(screen, min(lines, last + 1 - top))
-    finally:
-        screen.set_scrollback(shown)
-    return [found[row - first] for row in rows]
-
-
-def _cells(screen: Screen, count: int) -> List[List[Cell]]:
-    cols = screen.columns
+def _cells(screen: Screen, rows: range) -> List[List[Cell]]:
+    """Returns the cells of the given rows of scrollback."""
+    cols = room = screen.columns
+    records = ctypes.create_string_buffer(CELL_SIZE * room)
+    length, wrapped = ctypes.c_size_t(), ctypes.c_uint8()
+    stored = ctypes.byref(length), ctypes.byref(wrapped)
     found = []
-    for row in range(count):
-        cells = screen.cells(row)
-        cell = screen.cell(row, cols)
-        while cell is not None:
-            cells.append(cell)
-            cell = screen.cell(row, len(cells))
-        found.append(cells)
+    for row in rows:
+        screen._call(library.vt100_get_row_cells, row, records, room, *stored)
+        if length.value > room:
+            room = length.value
+            records = ctypes.create_string_buffer(CELL_SIZE * room)
+            screen._call(library.vt100_get_row_cells, row, records, room, *stored)
+        cells = cells_of(ctypes.string_at(records, CELL_SIZE * length.value))
+        found.append(cells + [_BLANK] * (cols - len(cells)))
     return found
-
-
-def _texts(screen: Screen, count: int) -> List[str]:
-    return screen.rows(width=0xFFFF)[:count]

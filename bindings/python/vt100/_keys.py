@@ -2,12 +2,28 @@
 
 from __future__ import annotations
 
+import re
 from typing import Dict, Tuple
 
 from ._cells import MouseProtocolEncoding, MouseProtocolMode
 
-#: The bytes that a terminal of type xterm-256color sends for each key name that `Terminal.press`
-#: accepts. The cursor keys are those of normal mode; in application mode, ESC O replaces ESC [.
+#: The keys of the numeric keypad: what each sends in numeric mode, and what it sends after ESC O in
+#: application mode (DECKPAM), as on a VT220.
+_KEYPAD: Dict[str, Tuple[str, str]] = {
+    **{f"keypad_{digit}": (str(digit), "pqrstuvwxy"[digit]) for digit in range(10)},
+    "keypad_multiply": ("*", "j"),
+    "keypad_add": ("+", "k"),
+    "keypad_comma": (",", "l"),
+    "keypad_subtract": ("-", "m"),
+    "keypad_decimal": (".", "n"),
+    "keypad_divide": ("/", "o"),
+    "keypad_enter": ("\r", "M"),
+    "keypad_equal": ("=", "X"),
+}
+
+#: The names of the keys that `Terminal.press` accepts besides characters, with what a terminal of
+#: type xterm-256color sends for each. The cursor keys are those of normal mode, and the keypad is in
+#: numeric mode; in application mode, cursor keys send ESC O instead of ESC [.
 KEYS: Dict[str, str] = {
     "enter": "\r",
     "tab": "\t",
@@ -18,6 +34,7 @@ KEYS: Dict[str, str] = {
     "down": "\x1b[B",
     "right": "\x1b[C",
     "left": "\x1b[D",
+    "begin": "\x1b[E",
     "home": "\x1b[H",
     "end": "\x1b[F",
     "insert": "\x1b[2~",
@@ -29,8 +46,24 @@ KEYS: Dict[str, str] = {
         f"f{number}": f"\x1b[{code}~"
         for number, code in zip(range(5, 13), (15, 17, 18, 19, 20, 21, 23, 24))
     },
+    **{name: character for name, (character, _) in _KEYPAD.items()},
 }
-_CURSOR_KEYS = ("up", "down", "right", "left", "home", "end")
+
+#: Other names of keys, and short names of modifiers. Upper and lower case are equal in names of
+#: more than one letter.
+_OTHER_NAMES = {
+    "esc": "escape",
+    "return": "enter",
+    "del": "delete",
+    "ins": "insert",
+    "pageup": "page_up",
+    "pagedown": "page_down",
+    "pgup": "page_up",
+    "pgdn": "page_down",
+}
+_SHORT_MODIFIERS = {"C": "ctrl", "M": "alt", "S": "shift"}
+
+_CURSOR_KEYS = ("up", "down", "right", "left", "begin", "home", "end")
 
 #: The number that each modifier adds to the parameter of a key (xterm, PC-style function keys).
 _MODIFIERS = {"shift": 1, "alt": 2, "ctrl": 4}
@@ -50,14 +83,20 @@ _ACTIONS = {
 }
 
 
-def key_bytes(key: str, application_cursor: bool) -> bytes:
+def key_bytes(key: str, application_cursor: bool, application_keypad: bool = False) -> bytes:
     """Returns what is sent for a key: a character or a name in `KEYS`, which the names of modifiers
     may precede, as in "ctrl-alt-delete". Raises `ValueError` if there is no such key."""
     modifiers, name = _split(key)
     if len(name) == 1:
         return _character_bytes(name, modifiers)
+    name = _OTHER_NAMES.get(name.lower(), name.lower())
     if name not in KEYS:
-        raise ValueError(f"no key is named {key!r}; text is sent by send()")
+        raise ValueError(
+            f"no key is named {key!r}: a key is a character, or one of {', '.join(KEYS)}, after any"
+            " of ctrl-, alt- and shift-; send() sends text"
+        )
+    if application_keypad and name in _KEYPAD and not modifiers:
+        return b"\x1bO" + _KEYPAD[name][1].encode()
     text = KEYS[name]
     if len(text) == 1:
         return _control_bytes(name, text, modifiers)
@@ -75,6 +114,7 @@ def _split(key: str) -> Tuple[Dict[str, int], str]:
     modifiers: Dict[str, int] = {}
     while "-" in key[1:]:
         word, rest = key.split("-", 1)
+        word = _SHORT_MODIFIERS.get(word, word.lower())
         if word not in _MODIFIERS or not rest:
             break
         modifiers[word], key = _MODIFIERS[word], rest
@@ -105,6 +145,17 @@ def _control_bytes(name: str, text: str, modifiers: Dict[str, int]) -> bytes:
 
 def _with_alt(text: str, modifiers: Dict[str, int]) -> bytes:
     return ("\x1b" + text if "alt" in modifiers else text).encode()
+
+
+#: The controls that pasted text loses: all but TAB, LF and CR. keys.js removes the same ones.
+_UNPASTED = re.compile(r"[\x00-\x08\x0b\x0c\x0e-\x1f\x7f-\x9f]")
+
+
+def paste_text(text: str, is_bracketed: bool) -> str:
+    """Returns what is sent for pasted text. ESC could end the brackets, and a control such as ^C
+    interrupts a program, which then reads the rest as typed."""
+    text = _UNPASTED.sub("", text).replace("\r\n", "\r").replace("\n", "\r")
+    return f"\x1b[200~{text}\x1b[201~" if is_bracketed else text
 
 
 def mouse_bytes(

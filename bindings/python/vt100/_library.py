@@ -114,7 +114,10 @@ def _arguments() -> Dict[str, List[Any]]:
         "swap": [handle, handle],
         "process": [handle, data, size],
         "process_until": [handle, data, size, length],
+        "process_until_full": [handle, data, size, length],
         "pending_len": [handle, length],
+        "is_ground": [handle, flag],
+        "scrollback_erasures": [handle, ctypes.POINTER(u64)],
         "set_size": [handle, u16, u16],
         "screen_set_size": [handle, u16, u16],
         "set_scrollback": [handle, size],
@@ -124,6 +127,8 @@ def _arguments() -> Dict[str, List[Any]]:
         "get_cells": [handle, u16, data, size],
         "get_all_cells": [handle, data, size],
         "row_wrapped": [handle, u16, flag],
+        "get_row_cells": [handle, size, data, size, length, flag],
+        "row_contents": [handle, size, length],
         "is_steady": [handle, flag],
         "contents_between": [handle, u16, u16, u16, u16, length],
         "rows": [handle, *rows],
@@ -135,6 +140,8 @@ def _arguments() -> Dict[str, List[Any]]:
         "leave": [handle, u64],
         "mirror_is_current": [handle, u64, flag],
         "capture_new": [handle],
+        "charsets_new": [handle],
+        "charsets_translate": [handle, data, size, data, size, length],
         "capture_screen": [handle, handle, length],
         "capture_row": [handle, size, handle, length],
         "next_row": [data, size, u16, size, length, length],
@@ -204,7 +211,7 @@ def _load() -> ctypes.CDLL:
 
 library = _load()
 
-#: The version of the C interface of the loaded library, such as "1.2".
+#: The version of the C interface of the loaded library, such as "1.3".
 library_version: str = library.vt100_version().decode()
 
 

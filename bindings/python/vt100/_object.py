@@ -117,6 +117,12 @@ class Object:
         if status:
             check(status, wrong)
 
+    def _flag(self, function: Any) -> bool:
+        """Returns whether a function of the library stores 1."""
+        flag = ctypes.c_uint8()
+        self._call(function, ctypes.byref(flag))
+        return flag.value == 1
+
     def _bytes(self, function: Any, *arguments: Any, wrong: str = "") -> bytes:
         """Returns the text that a function of the library generates, as UTF-8."""
         length = ctypes.c_size_t()

@@ -30,15 +30,15 @@ class Callbacks:
 
     Callbacks are invoked during `process`, in order, after the byte that completes the sequence and
     before the next byte is parsed. Only `on_scroll` and `on_scroll_row`, which are not passed the
-    screen, may be invoked a few thousand bytes later, if these bytes contain nothing but text and
-    colors. `screen` is the parser. A callback may read and change it, but must not call `process`.
-    An exception raised by a callback propagates from `process`; the bytes after those that were
-    parsed are not parsed, and no further callbacks are invoked.
+    screen, may be invoked later, before `process` returns, unless other callbacks besides
+    `events_lost` are overridden. `screen` is the parser. A callback may read and change it, but
+    must not call `process`. An exception raised by a callback propagates from `process`; the bytes
+    after those that were parsed are not parsed, and no further callbacks are invoked.
 
     Strings that a program sends are `bytes`, because they need not be UTF-8.
 
     The events of a byte are recorded until the byte has been processed. If an allocation fails, or
-    the events of one byte take more than about 1 MiB (such as many rows that scroll off at once),
+    the events of one byte take more than about 512 KiB (such as many rows that scroll off at once),
     `events_lost` is invoked instead of the callbacks of the remaining events.
     """
 

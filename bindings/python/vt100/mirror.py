@@ -58,6 +58,12 @@ class Mirror(Object):
         """Encodes a string as UTF-8 and processes it."""
         self.process(text.encode())
 
+    @property
+    def is_ground(self) -> bool:
+        """Whether the mirror is in ground state: no escape sequence, control string or character is
+        half read."""
+        return self._flag(library.vt100_is_ground)
+
     def set_size(self, rows: SupportsIndex, cols: SupportsIndex) -> None:
         """Resizes the terminal."""
         self._call(library.vt100_set_size, *size_in_range(rows, cols))

@@ -5,15 +5,11 @@ from __future__ import annotations
 import ctypes
 from typing import NoReturn, Sequence, SupportsIndex, Tuple, Union
 
-from . import _events, _lines
+from . import _events
 from ._library import MAX_SIZE, Handle, check, in_range, library, size_in_range
 from ._object import BytesLike, as_bytes
 from .callbacks import Callbacks
 from .screen import Screen
-
-#: The kinds of events that are reported at the byte that causes them, and can occur in lines of
-#: text.
-_AT_ITS_BYTE = 1 << _events.UNHANDLED_CHAR | 1 << _events.UNHANDLED_CSI
 
 
 class _Titles(Callbacks):
@@ -39,7 +35,6 @@ class Parser(Screen):
 
     _callbacks: Union[None, Callbacks, Sequence[Callbacks]] = None
     _is_reporting = False
-    _is_ground = True
 
     def __init__(
         self,
@@ -56,8 +51,8 @@ class Parser(Screen):
         check(library.vt100_parser_new(*size, capacity, listeners.wanted, self._at))
         self._callbacks, self._capacity = callbacks, capacity
         self._titles, self._listeners = titles, listeners
-        wants_rows = listeners.wanted >> _events.ON_SCROLL & 1 == 1
-        self._is_bulk = wants_rows and not listeners.wanted & _AT_ITS_BYTE
+        # Callbacks for rows are not passed the screen, so rows can be reported together.
+        self._is_bulk = _events.Listeners(own).wanted == 1 << _events.ON_SCROLL
 
     @property
     def screen(self) -> Screen:
@@ -72,7 +67,7 @@ class Parser(Screen):
     @property
     def title(self) -> str:
         """The title of the window (OSC 0 and 2). Bytes that are not UTF-8 are replaced by U+FFFD,
-        and a title of more than about 1 MiB is ignored."""
+        and a title of more than about 512 KiB may be ignored."""
         return self._titles.title
 
     @property
@@ -88,45 +83,40 @@ class Parser(Screen):
         with self._lock:
             if self._is_reporting:
                 raise RuntimeError("process was called by a callback of the same parser")
-            # Until all of the input is parsed, an exception may leave a sequence unfinished.
-            self._is_ground, was_ground = False, self._is_ground
-            if self._is_bulk and was_ground and _lines.is_lines(data):
-                self._process_lines(data)
-            else:
-                self._process_until(data, 0, len(data))
-            self._is_ground = _lines.is_ground(data, was_ground)
+            self._process(data)
 
     def feed(self, text: str) -> None:
         """Encodes a string as UTF-8 and processes it."""
         self.process(text.encode())
 
-    def _process_until(self, data: bytes, at: int, end: int) -> None:
-        """Processes a part of the input, and reports each event at the byte that causes it."""
+    def _process(self, data: bytes) -> None:
+        """Processes input, and reports each event at the byte that causes it, or many rows that
+        scrolled off together."""
+        read = library.vt100_process_until_full if self._is_bulk else library.vt100_process_until
         start = ctypes.cast(ctypes.c_char_p(data), ctypes.c_void_p).value or 0
-        used = ctypes.c_size_t()
-        while at < end:
+        at, used = 0, ctypes.c_size_t()
+        while at < len(data):
             used.value = 0
-            status = library.vt100_process_until(
-                self._at, start + at, end - at, ctypes.byref(used)
-            )
+            status = read(self._at, start + at, len(data) - at, ctypes.byref(used))
             at += used.value
             self._report()
             check(status)
 
-    def _process_lines(self, data: bytes) -> None:
-        """Processes lines of text, and reports the rows of each slice after it was parsed."""
-        start = ctypes.cast(ctypes.c_char_p(data), ctypes.c_void_p).value or 0
-        at = 0
-        while at < len(data):
-            end = _lines.slice_end(data, at, *self.size)
-            if end == at:
-                end = min(len(data), at + _lines.MAX_SLICE)
-                self._process_until(data, at, end)
-            else:
-                status = library.vt100_process(self._at, start + at, end - at)
-                self._report()
-                check(status)
-            at = end
+    @property
+    def is_ground(self) -> bool:
+        """Whether the parser is in ground state: no escape sequence, control string or character is
+        half read."""
+        return self._flag(library.vt100_is_ground)
+
+    @property
+    def scrollback_erasures(self) -> int:
+        """How often the input has asked to erase scrollback: the number of RIS (`ESC c`) and ED 3
+        (`CSI 3 J` or `CSI ? 3 J`) sequences that were processed, even if there was nothing to
+        erase. If the number has changed, copies of scrollback rows that were made before are
+        outdated. `reset` sets it to 0."""
+        count = ctypes.c_uint64()
+        self._call(library.vt100_scrollback_erasures, ctypes.byref(count))
+        return count.value
 
     @property
     def pending_len(self) -> int:
@@ -159,7 +149,6 @@ class Parser(Screen):
             self._handle.at, fresh.at = fresh.at, self._handle.at
             library.vt100_free(ctypes.byref(fresh))
             self._titles.title = self._titles.icon_name = ""
-            self._is_ground = not self._is_reporting
 
     def _report(self) -> None:
         """Invokes the callbacks for the events in the log, and clears it."""

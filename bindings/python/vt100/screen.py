@@ -32,6 +32,7 @@ from ._library import (
     size_in_range,
 )
 from ._options import Repeat, diff_options, redraw_options
+from ._pictures import Theme, html_of, svg_of
 from ._state import HasState
 
 _Index = SupportsIndex
@@ -165,9 +166,7 @@ class Screen(HasState):
         """Returns whether the screen is steady: every displayed glyph reproduces itself when it is
         printed on a blank row. A terminal that reads the redraw of a steady screen, or a diff to
         it, displays exactly that screen. Only U+FE0F can make a screen unsteady."""
-        steady = ctypes.c_uint8()
-        self._call(library.vt100_is_steady, ctypes.byref(steady))
-        return steady.value == 1
+        return self._flag(library.vt100_is_steady)
 
     def _record(self, row: int, cols: int) -> bytes:
         """Returns the cells of a displayed row as an array of `vt100_cell`."""
@@ -291,6 +290,14 @@ class Screen(HasState):
             text = self._bytes(function, *before, start, cols, ends, state.rows, wrong=wrong)
         starts = [0, *ends[:-1]]
         return [text[begin:end] for begin, end in zip(starts, ends)]
+
+    def to_html(self, theme: Theme = Theme()) -> str:
+        """Returns a picture of the displayed rows in HTML: a `pre` element with its own style."""
+        return html_of(self.buffer, theme)
+
+    def to_svg(self, theme: Theme = Theme()) -> str:
+        """Returns a picture of the displayed rows in SVG, whose text a monospaced font draws."""
+        return svg_of(self.buffer, theme)
 
     # Redraws and diffs
 

@@ -17,17 +17,11 @@ from __future__ import annotations
 
 import contextlib
 import errno
-import fcntl
-import linecache
 import math
 import os
-import pty
-import re
 import select
 import shlex
-import struct
 import subprocess
-import termios
 import time
 import warnings
 import weakref
@@ -40,33 +34,29 @@ from typing import (
     NamedTuple,
     NoReturn,
     Optional,
-    Pattern,
     Sequence,
     Type,
     TypeVar,
     Union,
 )
 
-from . import _session, _terminfo
+from . import terminfo
 from ._compare import diff
-from ._keys import KEYS, key_bytes, mouse_bytes
+from ._keys import KEYS, key_bytes, mouse_bytes, paste_text
+from ._recent import Recent
+from ._waiting import Predicate, condition, name_of
 from .callbacks import Callbacks
+from .charsets import Charsets
 from .parser import Parser, _as_sequence
+from .program import Program
 from .replies import Replies
 from .screen import Screen
 
 __all__ = ["KEYS", "Predicate", "Terminal", "WaitFailed", "diff", "framed"]
 
-#: A string that the screen must contain, a pattern of which it must contain a match, or a function
-#: of the screen that must return true.
-Predicate = Union[str, Pattern[str], Callable[[Screen], object]]
-
 _Self = TypeVar("_Self", bound="Terminal")
 
 _READABLE = select.POLLIN | select.POLLHUP | select.POLLERR
-
-#: How long `Terminal.close` waits for the program to end, in seconds.
-_GRACE = 1.0
 
 
 class WaitFailed(AssertionError):
@@ -112,19 +102,21 @@ class Terminal:
     """A program that runs in a terminal.
 
     `command` is the program and its arguments, or a string that is split as a shell splits words
-    (no shell is run). `env` replaces the environment, which otherwise is that of the caller without
-    LINES and COLUMNS. `timeout` is the default time limit of each wait in seconds. `screen` is the
-    terminal's parser, created with `scrollback` and `callbacks`. With `replies`, the terminal
-    replies to the queries of the program (see `Replies`).
+    (no shell is run). `timeout` is the default time limit of each wait in seconds. `screen` is the
+    terminal's parser, created with `scrollback` and `callbacks`; line drawing is translated to
+    Unicode before it is parsed (see `Charsets`). With `replies`, the terminal replies to the
+    queries of the program (see `Replies`).
 
-    TERM and TERMINFO are set to the entry of this terminal, caldrosk-256color. For another value of
-    TERM, pass it as `term`; TERMINFO is then the one in the environment, if any.
+    The program gets the environment of the caller without LINES and COLUMNS, changed by `env`: each
+    name gets its value, or is removed if that is None. If neither LC_ALL, LC_CTYPE nor LANG is set,
+    LC_CTYPE is C.UTF-8. TERM and TERMINFO are those of the entry of this terminal,
+    caldrosk-256color. For another value of TERM, pass it as `term` or in `env`; TERMINFO is then
+    the one in the environment, if any.
 
     Close a terminal after use, by a `with` statement or `close`.
     """
 
-    _file = -1
-    _is_processing = False
+    _is_open = _is_processing = False
 
     def __init__(
         self,
@@ -135,7 +127,7 @@ class Terminal:
         scrollback: int = 0,
         callbacks: Union[None, Callbacks, Sequence[Callbacks]] = None,
         replies: bool = False,
-        env: Optional[Mapping[str, str]] = None,
+        env: Optional[Mapping[str, Optional[str]]] = None,
         cwd: Optional[str] = None,
         term: Optional[str] = None,
         timeout: float = 10.0,
@@ -146,19 +138,11 @@ class Terminal:
         self.timeout = timeout
         own: List[Callbacks] = [Replies(_weak_send(self))] if replies else []
         self.screen = Parser(rows, cols, scrollback, [*_as_sequence(callbacks), *own])
-        self._unsent = bytearray()
-        self._has_output = True
-        self._file, other_end = pty.openpty()
-        try:
-            os.set_blocking(self._file, False)
-            _set_window_size(self._file, rows, cols)
-            self._process = _start(words, other_end, cwd, _environment(env, term))
-        except BaseException:
-            os.close(self._file)
-            self._file = -1
-            raise
-        finally:
-            os.close(other_end)
+        self._charsets = Charsets()
+        self._recent = Recent(rows, cols)
+        self._has_output, self._has_written = True, False
+        self._program = _start(words, rows, cols, _environment(env, term), cwd)
+        self._is_open = True
 
     def __enter__(self: _Self) -> _Self:
         return self
@@ -172,18 +156,18 @@ class Terminal:
         self.close()
 
     def __del__(self) -> None:
-        if self._file >= 0:
+        if self._is_open:
             warnings.warn(f"{self!r} was not closed", ResourceWarning, source=self)
             self.close()
 
     def __repr__(self) -> str:
-        return f"<vt100.testing.Terminal {self._process.args!r}, {self.screen!r}>"
+        return f"<vt100.testing.Terminal {self._program.command!r}, {self.screen!r}>"
 
     @property
     def status(self) -> Optional[int]:
         """The exit status of the program, or the negated number of the signal that ended it. None
         while the program runs."""
-        return self._process.poll()
+        return self._program.status
 
     # Input
 
@@ -195,26 +179,34 @@ class Terminal:
         the callback has returned."""
         self._check_open()
         if self._is_processing:
-            self._unsent += data.encode() if isinstance(data, str) else data
+            self._type(data)
             return
         limit = self._limit(None)
         if not self._has_output:
             self._fail("sending text", limit)
-        self._unsent += data.encode() if isinstance(data, str) else data
+        self._recent.forget()
+        self._type(data)
         self._flush()
-        while self._unsent:
+        while self._program.unsent_len:
             # A program may read no more input before its own output is read.
             self._wait_for_file(limit.left)
-            if self._unsent and (not self._has_output or not limit.left):
-                self._unsent.clear()
+            if self._program.unsent_len and (not self._has_output or not limit.left):
+                self._program.drop_input()
                 self._fail("sending text", limit)
+
+    def _type(self, data: Union[str, bytes]) -> None:
+        self._program.type(data.encode() if isinstance(data, str) else data)
 
     def press(self, *keys: str) -> None:
         """Sends keys, which are characters or names in `KEYS`, after any of "ctrl-", "alt-" and
-        "shift-", as in "ctrl-c" or "ctrl-shift-up". Cursor keys are sent according to the mode that
-        the program has set."""
+        "shift-", or "C-", "M-" and "S-", as in "ctrl-c", "C-c", "f12" or "ctrl-shift-up". Cursor
+        keys and the keypad are sent according to the modes that the program has set. Raises
+        `ValueError` if there is no such key; nothing is sent then."""
         for key in keys:
-            self.send(key_bytes(key, self.screen.application_cursor))
+            key_bytes(key, False)
+        for key in keys:
+            state = self.screen
+            self.send(key_bytes(key, state.application_cursor, state.application_keypad))
 
     def mouse(self, action: str, row: int, col: int, button: str = "left") -> None:
         """Sends a mouse event to the program, in the encoding that it has requested.
@@ -236,41 +228,51 @@ class Terminal:
             self.mouse("release", row, col, button)
 
     def paste(self, text: str) -> None:
-        """Sends text as a terminal does when the user pastes it: between brackets if the program
-        has set bracketed paste mode, and with CR for each newline."""
-        text = text.replace("\r\n", "\r").replace("\n", "\r")
-        self.send(f"\x1b[200~{text}\x1b[201~" if self.screen.bracketed_paste else text)
+        """Sends text as a terminal does when the user pastes it: with CR for each newline, without
+        other controls than TAB and, if the program has set bracketed paste mode, between
+        brackets."""
+        self.send(paste_text(text, self.screen.bracketed_paste))
 
     def resize(self, rows: int, cols: int) -> None:
         """Resizes the terminal, which notifies the program with SIGWINCH."""
         self._check_open()
         self.screen.set_size(rows, cols)
-        _set_window_size(self._file, rows, cols)
+        self._recent.set_size(rows, cols)
+        self._program.resize(rows, cols)
 
     # Waiting
 
-    def wait_for(self, wanted: Predicate, timeout: Optional[float] = None) -> Screen:
+    def wait_for(
+        self, wanted: Predicate, timeout: Optional[float] = None, *, accept_old: bool = False
+    ) -> Screen:
         """Processes output until the screen contains a string or a match of a compiled pattern, or
         a predicate returns true. Returns a copy of that screen.
+
+        After input was sent, the program must have written the text, or a part of it, since then:
+        after `send("ls\\n")`, `wait_for("$ ")` waits for the next prompt. With `accept_old`, text
+        that was displayed before counts, too. A predicate always gets the whole screen.
 
         Raises `WaitFailed` after `timeout` seconds, or if the program has ended and the condition
         is not satisfied after all of its output.
         """
         self._check_open()
-        holds = _condition(wanted)
+        holds = condition(wanted, None if accept_old else self._recent)
         limit = self._limit(timeout)
         while not holds(self.screen):
             is_read = self.read(limit.left)
             if not is_read or (not limit.left and not holds(self.screen)):
-                self._fail(f"waiting for {_name_of(wanted)}", limit)
+                is_old = not callable(wanted) and condition(wanted)(self.screen)
+                hint = ", other than what was displayed before the last input" if is_old else ""
+                self._fail(f"waiting for {name_of(wanted)}{hint}", limit)
         return self.screen.save()
 
     def wait_quiet(self, seconds: float = 0.2, timeout: Optional[float] = None) -> Screen:
         """Processes output until there is none for the given number of seconds, or the program
-        ends. Returns a copy of the screen. Raises `WaitFailed` after `timeout` seconds."""
+        ends. Waits first until the program has written something, if it has not yet. Returns a copy
+        of the screen. Raises `WaitFailed` after `timeout` seconds."""
         self._check_open()
         limit = self._limit(timeout)
-        while self.read(seconds):
+        while self.read(seconds) or (self._has_output and not self._has_written):
             if not limit.left:
                 self._fail(f"waiting for {seconds:g} seconds without output", limit)
         return self.screen.save()
@@ -285,12 +287,12 @@ class Terminal:
             if self._has_output and (not is_read or not limit.left):
                 self._fail("waiting for the end of the program", limit)
         try:
-            return self._process.wait(limit.left)
+            return self._program.wait(limit.left)
         except subprocess.TimeoutExpired:
             self._fail("waiting for the end of the program", limit)
 
     def _check_open(self) -> None:
-        if self._file < 0:
+        if not self._is_open:
             raise ValueError("the terminal is closed")
 
     def _limit(self, timeout: Optional[float]) -> _Limit:
@@ -303,8 +305,10 @@ class Terminal:
             reason = f"not done within {limit.seconds:g} seconds"
         else:
             with contextlib.suppress(subprocess.TimeoutExpired):
-                self._process.wait(min(1.0, limit.left))
-            reason = f"the program has ended with status {self._process.returncode}"
+                self._program.wait(min(1.0, limit.left))
+            status = self._program.status
+            ended = "closed the terminal" if status is None else f"ended with status {status}"
+            reason = f"the program has {ended}"
         raise WaitFailed(f"{doing}: {reason}", self.screen.save())
 
     # Output
@@ -313,7 +317,7 @@ class Terminal:
         """Returns the descriptor of the terminal, for `select` and the like: it is readable when
         `read` has something to do."""
         self._check_open()
-        return self._file
+        return self._program.file
 
     def read(self, seconds: float = 0.0) -> bool:
         """Processes the output that arrives within the given number of seconds. Returns whether
@@ -332,7 +336,8 @@ class Terminal:
         """Waits until the terminal can be read or, if there is unsent text, written, and does that.
         Returns what was possible."""
         poll = select.poll()
-        poll.register(self._file, select.POLLIN | (select.POLLOUT if self._unsent else 0))
+        writable = select.POLLOUT if self._program.unsent_len else 0
+        poll.register(self._program.file, select.POLLIN | writable)
         ready = poll.poll(min(1 << 30, math.ceil(seconds * 1000)))
         events = ready[0][1] if ready else 0
         if events & _READABLE:
@@ -342,50 +347,31 @@ class Terminal:
         return events
 
     def _process_output(self) -> None:
-        data = self._output()
+        data = self._program.read()
         if data is None:
             return
         self._has_output = data != b""
+        self._has_written |= self._has_output
+        text = self._charsets.translate(data)
+        self._recent.process(text)
         self._is_processing = True
         try:
-            self.screen.process(data)
+            self.screen.process(text)
         finally:
             self._is_processing = False
         self._flush()  # what callbacks have sent
 
-    def _output(self) -> Optional[bytes]:
-        """Returns a chunk of the program's output, which is empty at the end of the output, or None
-        if there is none yet."""
-        try:
-            return os.read(self._file, 65536)
-        except BlockingIOError:
-            return None
-        except OSError as error:
-            if error.errno != errno.EIO:  # what Linux reports once the other end is closed
-                raise
-            return b""
-
     def _flush(self) -> None:
         """Writes as much of the unsent text as the terminal accepts."""
-        with contextlib.suppress(BlockingIOError):
-            while self._unsent and self._has_output:
-                del self._unsent[: os.write(self._file, self._unsent[:256])]
+        if self._has_output:
+            self._program.flush()
 
     def close(self) -> None:
         """Hangs up the terminal. Kills the program, and the processes that it has left in its
         session, if that does not end them within one second. May be called more than once."""
-        if self._file < 0:
-            return
-        left = _session.members(self._process.pid)
-        os.close(self._file)
-        self._file, self._has_output = -1, False
-        end = time.monotonic() + _GRACE
-        try:
-            self._process.wait(_GRACE)
-        except subprocess.TimeoutExpired:
-            self._process.kill()
-            self._process.wait()
-        _session.end(left, end)
+        if self._is_open:
+            self._is_open = self._has_output = False
+            self._program.kill()
 
 
 def _weak_send(terminal: Terminal) -> Callable[[bytes], object]:
@@ -400,78 +386,30 @@ def _weak_send(terminal: Terminal) -> Callable[[bytes], object]:
     return send
 
 
-def _condition(wanted: Predicate) -> Callable[[Screen], bool]:
-    """Returns the function of the screen that must return true."""
-    if isinstance(wanted, str):
-        text = wanted
-        return lambda screen: text in screen.contents()
-    if isinstance(wanted, re.Pattern):
-        pattern = wanted
-        return lambda screen: pattern.search(screen.contents()) is not None
-    if not callable(wanted):
-        kind = type(wanted).__name__
-        raise TypeError(f"what to wait for is a str, a compiled pattern or a function, not {kind}")
-    function = wanted
-    return lambda screen: bool(function(screen))
-
-
-def _name_of(wanted: Predicate) -> str:
-    """Returns how a message names what was awaited: for a function written in Python, where it is;
-    for a lambda, its line of source, too."""
-    if isinstance(wanted, str):
-        return repr(wanted)
-    if isinstance(wanted, re.Pattern):
-        return f"a match of {wanted.pattern!r}"
-    code = getattr(wanted, "__code__", None)
-    name: str = getattr(wanted, "__name__", repr(wanted))
-    if code is None:
-        return name
-    place = f"{name} ({os.path.basename(code.co_filename)}, line {code.co_firstlineno})"
-    source = linecache.getline(code.co_filename, code.co_firstlineno).strip()
-    return f"{place}, {source}" if name == "<lambda>" and source else place
-
-
-def _environment(env: Optional[Mapping[str, str]], term: Optional[str]) -> Dict[str, str]:
+def _environment(env: Optional[Mapping[str, Optional[str]]], term: Optional[str]) -> Dict[str, str]:
     """Returns the environment of the program."""
-    environment = dict(os.environ if env is None else env)
-    if env is None:
-        for name in ("LINES", "COLUMNS"):
-            environment.pop(name, None)
+    changed: Dict[str, Optional[str]] = {**os.environ, "LINES": None, "COLUMNS": None}
+    changed.update(env or {})
+    environment = {name: value for name, value in changed.items() if value is not None}
+    if not any(environment.get(name) for name in ("LC_ALL", "LC_CTYPE", "LANG")):
+        environment["LC_CTYPE"] = "C.UTF-8"
+    term = term or (env or {}).get("TERM")
     if term is not None:
         environment["TERM"] = term
         return environment
-    environment["TERM"], folder = _terminfo.entry()
+    environment["TERM"], folder = terminfo.entry()
     if folder is not None:
         environment["TERMINFO"] = folder
     return environment
 
 
 def _start(
-    words: List[str], other_end: int, cwd: Optional[str], environment: Dict[str, str]
-) -> "subprocess.Popen[bytes]":
+    words: List[str], rows: int, cols: int, env: Dict[str, str], cwd: Optional[str]
+) -> Program:
     """Starts the program. Raises `FileNotFoundError` that names the program if there is none."""
     try:
-        return subprocess.Popen(
-            words,
-            stdin=other_end,
-            stdout=other_end,
-            stderr=other_end,
-            cwd=cwd,
-            env=environment,
-            start_new_session=True,
-            preexec_fn=_take_terminal,
-        )
+        return Program(words, rows, cols, env, cwd)
     except FileNotFoundError as error:
         if error.filename != words[0]:
             raise
         raise FileNotFoundError(errno.ENOENT, "there is no such program", words[0]) from None
-
-
-def _set_window_size(file: int, rows: int, cols: int) -> None:
-    fcntl.ioctl(file, termios.TIOCSWINSZ, struct.pack("HHHH", rows, cols, 0, 0))
-
-
-def _take_terminal() -> None:
-    """Makes the terminal the controlling terminal of the program. Called in the program's own
-    process."""
-    fcntl.ioctl(0, termios.TIOCSCTTY, 0)

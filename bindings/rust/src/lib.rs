@@ -2,8 +2,9 @@
 //! screen that a person would see, and returns it as text, as a redraw for another terminal, or as
 //! a diff from an earlier screen.
 //!
-//! The items are those of the crate `vt100` 0.18.1, with the addition of [`mirror`],
-//! [`DiffOptions`], [`RedrawOptions`], [`Repeat`], [`Parser::pending_len`],
+//! The items are those of the crate `vt100` 0.18.1, with the addition of [`mirror`], [`Charsets`],
+//! [`DiffOptions`], [`RedrawOptions`], [`Repeat`], [`Parser::pending_len`], [`Parser::is_ground`],
+//! [`Parser::scrollback_erasures`],
 //! [`Screen::contents_formatted_with`], [`Screen::contents_diff_scrolling`],
 //! [`Screen::contents_diff_with`], [`Screen::state_formatted_with`], [`Screen::state_diff_with`],
 //! [`Screen::is_steady`], [`Screen::shown_copy`], [`TERMINAL_SETUP`] and [`TERMINAL_RESTORE`]. This crate wraps a formally verified library.
@@ -36,8 +37,10 @@
 //!
 //! If an allocation in the library fails, the call panics and has changed nothing, except that
 //! `process` has applied everything before the step whose allocation failed. From then on,
-//! `process` of the same parser or mirror always panics. If an allocation in Rust code fails (for a
-//! string, cells or event records), the program aborts.
+//! `process` of the same parser or mirror always panics. If the allocation was for the record of an
+//! event, the step has taken effect, and the parser continues with the next call, as after a
+//! callback that panics. If an allocation in Rust code fails (for a string, cells or event records),
+//! the program aborts.
 
 #![warn(missing_docs)]
 #![deny(unsafe_code)]
@@ -47,8 +50,10 @@ pub mod capture;
 mod cell;
 mod cells;
 mod changes;
+mod charsets;
 mod color;
 mod event;
+mod kept_row;
 #[allow(unsafe_code)]
 mod library;
 pub mod mirror;
@@ -61,7 +66,9 @@ mod texts;
 
 pub use callbacks::Callbacks;
 pub use cell::Cell;
+pub use charsets::Charsets;
 pub use color::Color;
+pub use kept_row::KeptRow;
 pub use modes::{CursorStyle, MouseProtocolEncoding, MouseProtocolMode};
 pub use options::{DiffOptions, RedrawOptions, Repeat};
 pub use parser::Parser;

@@ -77,6 +77,15 @@ extern "C" {
         -> u8;
     fn vt100_mirror_new(rows: u16, cols: u16, capacity: usize, out: *mut Handle) -> u8;
     fn vt100_capture_new(out: *mut Handle) -> u8;
+    fn vt100_charsets_new(out: *mut Handle) -> u8;
+    fn vt100_charsets_translate(
+        charsets: *mut Handle,
+        bytes: *const u8,
+        len: usize,
+        out: *mut u8,
+        room: usize,
+        out_len: *mut usize,
+    ) -> u8;
     fn vt100_save(handle: *mut Handle, out: *mut Handle) -> u8;
     fn vt100_shown_copy(handle: *mut Handle, out: *mut Handle) -> u8;
     fn vt100_swap(handle: *mut Handle, other: *mut Handle) -> u8;
@@ -89,6 +98,8 @@ extern "C" {
         used: *mut usize,
     ) -> u8;
     fn vt100_pending_len(handle: *mut Handle, len: *mut usize) -> u8;
+    fn vt100_is_ground(handle: *mut Handle, out: *mut u8) -> u8;
+    fn vt100_scrollback_erasures(handle: *mut Handle, count: *mut u64) -> u8;
     fn vt100_set_size(handle: *mut Handle, rows: u16, cols: u16) -> u8;
     fn vt100_screen_set_size(handle: *mut Handle, rows: u16, cols: u16) -> u8;
     fn vt100_set_scrollback(handle: *mut Handle, rows: usize) -> u8;
@@ -97,6 +108,15 @@ extern "C" {
     fn vt100_get_cell(handle: *mut Handle, row: u16, col: u16, out: *mut Cell) -> u8;
     fn vt100_get_cells(handle: *mut Handle, row: u16, out: *mut crate::Cell, room: usize) -> u8;
     fn vt100_row_wrapped(handle: *mut Handle, row: u16, out: *mut u8) -> u8;
+    fn vt100_get_row_cells(
+        handle: *mut Handle,
+        row: usize,
+        out: *mut crate::Cell,
+        room: usize,
+        len: *mut usize,
+        wrapped: *mut u8,
+    ) -> u8;
+    fn vt100_row_contents(handle: *mut Handle, row: usize, len: *mut usize) -> u8;
     fn vt100_is_steady(handle: *mut Handle, out: *mut u8) -> u8;
     fn vt100_contents(handle: *mut Handle, len: *mut usize) -> u8;
     fn vt100_contents_between(
@@ -340,6 +360,25 @@ impl Handle {
         out
     }
 
+    /// Creates a translator of character sets at the start of its input.
+    pub fn charsets() -> Self {
+        let mut out = Self::default();
+        check(unsafe { vt100_charsets_new(&mut out) });
+        out
+    }
+
+    /// Returns the translation of bytes, which is at most three times as long.
+    pub fn translate(&mut self, bytes: &[u8]) -> Vec<u8> {
+        let mut out = vec![0; bytes.len().saturating_mul(3)];
+        let mut len = 0;
+        let (start, room) = (out.as_mut_ptr(), out.len());
+        check(unsafe {
+            vt100_charsets_translate(self, bytes.as_ptr(), bytes.len(), start, room, &mut len)
+        });
+        out.truncate(len);
+        out
+    }
+
     /// Creates a saved screen of one cell.
     pub fn one_cell() -> Self {
         Self::parser(1, 1, 0, NO_EVENTS).save()
@@ -397,6 +436,20 @@ impl Handle {
         len
     }
 
+    /// Returns whether a parser or a mirror is in ground state.
+    pub fn is_ground(&mut self) -> bool {
+        let mut ground = 0;
+        check(unsafe { vt100_is_ground(self, &mut ground) });
+        ground == 1
+    }
+
+    /// Returns how often the input of a parser has asked to erase scrollback.
+    pub fn scrollback_erasures(&mut self) -> u64 {
+        let mut count = 0;
+        check(unsafe { vt100_scrollback_erasures(self, &mut count) });
+        count
+    }
+
     /// Resizes a parser, which logs events for rows that scroll off.
     pub fn set_size(&mut self, rows: u16, cols: u16) {
         check(unsafe { vt100_set_size(self, rows, cols) });
@@ -446,6 +499,35 @@ impl Handle {
             status => {
                 check(status);
                 wrapped == 1
+            }
+        }
+    }
+
+    /// Returns the cells of a row that the screen keeps, and whether the row is wrapped, or `None` if
+    /// there is no such row.
+    pub fn kept_row(&mut self, row: usize) -> Option<(Vec<crate::Cell>, bool)> {
+        let mut cells = Vec::new();
+        let (mut len, mut wrapped) = (0, 0);
+        // The first call finds out how many cells there are, and the second one reads them.
+        for _ in 0..2 {
+            cells.resize_with(len, crate::Cell::blank);
+            let (out, room) = (cells.as_mut_ptr(), cells.len());
+            match unsafe { vt100_get_row_cells(self, row, out, room, &mut len, &mut wrapped) } {
+                BAD_ARGUMENT => return None,
+                status => check(status),
+            }
+        }
+        Some((cells, wrapped == 1))
+    }
+
+    /// Returns the plain text of a row that the screen keeps, or `None` if there is no such row.
+    pub fn kept_text(&mut self, row: usize) -> Option<String> {
+        let mut len = 0;
+        match unsafe { vt100_row_contents(self, row, &mut len) } {
+            BAD_ARGUMENT => None,
+            status => {
+                check(status);
+                Some(self.copied(len))
             }
         }
     }

@@ -82,6 +82,14 @@ impl Mirror {
         self.handle().process(bytes);
     }
 
+    /// Returns whether the mirror is in ground state: no escape sequence, control string or
+    /// character is half read.
+    #[must_use]
+    pub fn is_ground(&self) -> bool {
+        let mut handle = self.handle.lock().unwrap_or_else(PoisonError::into_inner);
+        handle.is_ground()
+    }
+
     /// Resizes the terminal.
     pub fn set_size(&mut self, rows: NonZeroU16, cols: NonZeroU16) {
         self.handle().set_size(rows.get(), cols.get());

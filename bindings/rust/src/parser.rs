@@ -4,7 +4,7 @@ use crate::event::{records, Event};
 use crate::library::{Handle, ALL_EVENTS, NO_EVENTS};
 use crate::Screen;
 use std::num::NonZeroU16;
-use std::sync::{Mutex, PoisonError};
+use std::sync::{Mutex, MutexGuard, PoisonError};
 
 /// The size in bytes of the largest memory for records that is kept.
 const MOST_MEMORY: usize = 65_536;
@@ -126,15 +126,51 @@ impl<CB: Callbacks> Parser<CB> {
     /// ```
     #[must_use]
     pub fn pending_len(&self) -> usize {
+        self.reader().pending_len()
+    }
+
+    /// Returns whether the parser is in ground state: no escape sequence, control string or
+    /// character is half read. Not in the crate `vt100`.
+    ///
+    /// ```
+    /// let mut parser = vt100::Parser::default();
+    /// parser.process(b"text \x1b[31");
+    /// assert!(!parser.is_ground());
+    /// parser.process(b"m");
+    /// assert!(parser.is_ground());
+    /// ```
+    #[must_use]
+    pub fn is_ground(&self) -> bool {
+        self.reader().is_ground()
+    }
+
+    /// Returns how often the input has asked to erase scrollback: the number of RIS (`\x1bc`) and
+    /// ED 3 (`\x1b[3J` or `\x1b[?3J`) sequences that the parser has read, even if there was nothing
+    /// to erase. Not in the crate `vt100`.
+    ///
+    /// If the number has changed since an earlier call, copies of scrollback rows that were made
+    /// before are outdated.
+    ///
+    /// ```
+    /// let mut parser = vt100::Parser::default();
+    /// parser.process(b"text\x1b[2J");
+    /// assert_eq!(parser.scrollback_erasures(), 0);
+    /// parser.process(b"\x1b[3J\x1bc");
+    /// assert_eq!(parser.scrollback_erasures(), 2);
+    /// ```
+    #[must_use]
+    pub fn scrollback_erasures(&self) -> u64 {
+        self.reader().scrollback_erasures()
+    }
+
+    /// Returns the handle that holds the unfinished sequence.
+    fn reader(&self) -> MutexGuard<'_, Handle> {
         let parser = if self.is_together {
             self.screen.handle()
         } else {
             &self.rest
         };
-        parser
-            .lock()
-            .unwrap_or_else(PoisonError::into_inner)
-            .pending_len()
+        parser.lock().unwrap_or_else(PoisonError::into_inner)
     }
 
     /// Resizes the terminal.

@@ -1,6 +1,6 @@
 use crate::cells::Cells;
 use crate::library::{self, Handle, State};
-use crate::{Cell, Color, CursorStyle, MouseProtocolEncoding, MouseProtocolMode};
+use crate::{Cell, Color, CursorStyle, KeptRow, MouseProtocolEncoding, MouseProtocolMode};
 use std::num::NonZeroU16;
 use std::sync::{Mutex, MutexGuard, OnceLock, PoisonError};
 
@@ -117,6 +117,34 @@ impl Screen {
     #[must_use]
     pub fn row_wrapped(&self, row: u16) -> bool {
         self.lock().row_wrapped(row)
+    }
+
+    /// Returns the row at `index` among all rows that the screen keeps, whether they are displayed or
+    /// not, or `None` if there is no such row: first come the rows of scrollback, oldest first, and
+    /// then those of the page.
+    ///
+    /// A scrollback row has a length of its own, without blank cells at its end, unless it was
+    /// displayed. The display does not change. Not in the crate `vt100`.
+    ///
+    /// ```
+    /// let size = |count| std::num::NonZeroU16::new(count).unwrap();
+    /// let mut parser = vt100::Parser::new(size(1), size(9), 5);
+    /// parser.process(b"first\r\nsecond");
+    /// let row = parser.screen().kept_row(0).unwrap();
+    /// assert_eq!((row.cells().len(), row.wrapped()), (5, false));
+    /// assert_eq!(parser.screen().kept_row_contents(0).unwrap(), "first");
+    /// ```
+    #[must_use]
+    pub fn kept_row(&self, index: usize) -> Option<KeptRow> {
+        let (cells, wrapped) = self.lock().kept_row(index)?;
+        Some(KeptRow::new(cells, wrapped))
+    }
+
+    /// Returns the plain text of the row at `index` among all rows that the screen keeps, up to its
+    /// last character, or `None` if there is no such row. Not in the crate `vt100`.
+    #[must_use]
+    pub fn kept_row_contents(&self, index: usize) -> Option<String> {
+        self.lock().kept_text(index)
     }
 
     /// Returns whether the alternate screen is active.

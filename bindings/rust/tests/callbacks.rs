@@ -269,6 +269,18 @@ fn a_capture_is_one_text() {
 }
 
 #[test]
+fn each_row_of_a_large_screen_is_reported() {
+    // The rows take 4.8 MB in the log, 40 bytes for each cell.
+    let mut parser = Parser::new_with_callbacks(size(400), size(300), 0, Capturing::default());
+    let wanted: Vec<String> = (1..=400).map(|row| format!("{row:0300}")).collect();
+    for (row, text) in wanted.iter().enumerate() {
+        parser.process(format!("\x1b[{}H{text}", row + 1).as_bytes());
+    }
+    parser.process(b"\x1b[400S");
+    assert_eq!(parser.callbacks().text, wanted.join("\n"));
+}
+
+#[test]
 fn a_copied_capture_goes_on_by_itself() {
     let mut parser = Parser::new(size(1), size(8), 0);
     parser.process(b"\x1b[1mx");

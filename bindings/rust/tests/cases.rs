@@ -110,6 +110,12 @@ fn replay_script(
     None
 }
 
+/// Returns the number of rows that a word states, or the largest that the processor can express.
+fn row_count(word: &str) -> usize {
+    let count: u64 = word.parse().unwrap();
+    usize::try_from(count).unwrap_or(usize::MAX)
+}
+
 fn take_step(parser: &mut Parser<Lines>, call: &str) {
     let words: Vec<&str> = call.split(' ').collect();
     match words[0] {
@@ -119,9 +125,7 @@ fn take_step(parser: &mut Parser<Lines>, call: &str) {
             let screen = parser.screen_mut();
             screen.set_size(number(words[1]), number(words[2]));
         }
-        "set_scrollback" => parser
-            .screen_mut()
-            .set_scrollback(words[1].parse().unwrap()),
+        "set_scrollback" => parser.screen_mut().set_scrollback(row_count(words[1])),
         "clear_scrollback" => parser.screen_mut().clear_scrollback(),
         "clone" => *parser.screen_mut() = parser.screen().clone(),
         "clear_events" => parser.callbacks_mut().0.clear(),

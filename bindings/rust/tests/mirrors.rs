@@ -237,6 +237,35 @@ fn viewers_are_kept_equal_by_both_kinds_of_update() {
 }
 
 #[test]
+fn a_mirror_keeps_as_many_rows_as_its_capacity() {
+    // When a screen grows, rows come back from scrollback, with blank rows for those not kept.
+    for (capacity, text) in [
+        (0, "\n\n3\n4"),
+        (1, "\n2\n3\n4"),
+        (2, "1\n2\n3\n4"),
+        (usize::MAX, "1\n2\n3\n4"),
+    ] {
+        let mut mirror = Mirror::new(size(2), size(8), capacity);
+        mirror.process(b"1\r\n2\r\n3\r\n4");
+        mirror.set_size(size(4), size(8));
+        let viewer = mirror.join();
+        let mut terminal = Parser::default();
+        take(&mut terminal, &mirror.update(viewer).unwrap());
+        assert_eq!(terminal.screen().contents(), text, "{capacity}");
+    }
+}
+
+#[test]
+fn a_mirror_processes_long_input() {
+    let mut mirror = Mirror::new(size(2), size(20), 0);
+    let viewer = mirror.join();
+    mirror.process("line of text\r\n".repeat(100_000).as_bytes());
+    mirror.process(b"the last one");
+    let update = mirror.update(viewer).unwrap();
+    assert!(update.text().ends_with("line of text\r\nthe last one"));
+}
+
+#[test]
 fn a_viewer_is_current_until_the_mirror_reads_or_is_resized() {
     let mut mirror = Mirror::new(size(3), size(8), 0);
     let (viewer, other) = (mirror.join(), mirror.join());

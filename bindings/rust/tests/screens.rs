@@ -137,6 +137,14 @@ fn a_copy_stays_as_it_was() {
 }
 
 #[test]
+fn everything_that_is_written_is_processed() {
+    let mut parser = Parser::new(size(2), size(20), 0);
+    let text = "line of text\r\n".repeat(100_000) + "the last one";
+    assert_eq!(parser.write(text.as_bytes()).unwrap(), text.len());
+    assert_eq!(parser.screen().contents(), "line of text\nthe last one");
+}
+
+#[test]
 fn a_screen_does_not_differ_from_itself() {
     let mut parser = Parser::default();
     parser.process(b"\x1b[?1hsome\x1b[7m text");
@@ -150,7 +158,7 @@ fn a_screen_does_not_differ_from_itself() {
 #[test]
 fn from_another_size_a_difference_is_a_redraw() {
     let mut parser = Parser::new(size(3), size(5), 0);
-    parser.process(b"\x1b[?1hone\r\n\x1b[1mtwo");
+    parser.process(b"\x1b[?1hone\r\n\x1b[2mt\x1b[22;1mwo");
     let prev = Parser::new(size(2), size(9), 0).screen().clone();
     let screen = parser.screen();
     assert_eq!(screen.contents_diff(&prev), screen.contents_formatted());
@@ -165,6 +173,10 @@ fn from_another_size_a_difference_is_a_redraw() {
         portable: true,
         ..DiffOptions::default()
     };
+    assert_ne!(
+        screen.contents_formatted_with(portable),
+        screen.contents_formatted()
+    );
     assert_eq!(
         screen.contents_diff_with(&prev, options),
         screen.contents_formatted_with(portable)
@@ -318,6 +330,10 @@ fn a_terminal_is_set_up_and_left() {
     assert_eq!(parser.screen().contents(), "");
     let count = |text| vt100::TERMINAL_SETUP.matches(text).count();
     assert_eq!((count("\x1b[8C\x1bH"), count("\x1bH")), (40, 40));
+    // Synchronized updates, national characters, and bidirectional text in the program's order.
+    for end in ["\x1b[?2026l", "\x1b[?42l", "\x1b[8h", "\x1b[0 k"] {
+        assert_eq!(count(end), 1);
+    }
     let fresh = parser.screen().clone();
     for number in [9, 1000, 1002, 1003, 1005, 1006] {
         parser.process(b"\x1b[1;31m\x1b[?25l\x1b=\x1b[?1;2004h\x1b[5 q");

@@ -1,91 +1,125 @@
-//! `example_cast`: reads a recording made by asciinema, version 2 or 3, and plays it through a
-//! mirror with two viewers, one for each kind of diff. Writes the number and length of the output
-//! events, the number and length of the updates for each viewer, and the rows that the second
-//! viewer displays at the end.
+//! `example_cast`, installed as `vtcast`: reads a recording made by asciinema, version 2 or 3, and
+//! prints the screen at a moment, or plays the recording through a mirror with two viewers, one for
+//! each kind of diff. Then it writes the number and length of the output events, the number and
+//! length of the updates for each viewer, and the rows that the second viewer displays at the end.
 #![tactic(auto)]
 
 mod cast;
+mod drawing;
+mod moment;
 mod player;
+mod recording;
 mod tally;
 mod viewer;
+mod words;
 
 use anyhow::{Context, Result};
-use cast::{Clock, Event, Header};
+use moment::{Moment, terminal_at};
 use player::Player;
+use recording::Recording;
 use std::alloc::Global;
 use std::io::ErrorKind;
 use std::process::ExitCode;
 use std::rt::Env;
 use std::{env, io};
 use tally::Tally;
+use vt100::{Error, Screen};
+use words::{Form, Request, read_words};
 
-const USAGE: &str = "usage: example_cast <RECORDING";
+const USAGE: &str = "usage: vtcast [--at SECONDS|--last [--redraw|--svg]] <RECORDING";
 
-/// Plays a whole recording. Its first line is a header, and each further line that is neither blank
-/// nor a comment is an event.
-fn play(alloc: Global, recording: &str) -> Result<Player> {
-    let (first, events) = recording.split_once('\n').unwrap_or((recording, ""));
-    let header = read_header(alloc, first).context("line 1")?;
+/// The version of Caldrosk.
+const VERSION: &str = "7";
+
+/// The texts of rows, or the error if a text cannot be allocated.
+type Texts = std::result::Result<Vec<String>, Error>;
+
+/// Plays a whole recording through a mirror.
+fn play_all(alloc: Global, text: &str) -> Result<Player> {
+    let recording = Recording::read(alloc, text)?;
+    let header = recording.header;
     let mut player = Player::new(alloc, header.rows, header.cols)?;
-    let mut clock = Clock::new(header.version);
-    let mut number = 2u64;
-    for line in events.lines() {
-        if header.version.has_event(line) {
-            play_line(alloc, &mut player, &mut clock, line).context(format_args!("line {number}"))?;
-        }
-        number = number.saturating_add(1);
-    }
+    recording.play(alloc, &mut player)?;
     player.update()?;
     Ok(player)
-}
-
-fn read_header(alloc: Global, line: &str) -> Result<Header> {
-    Header::read(&cast::json(alloc, line)?)
-}
-
-fn play_line(alloc: Global, player: &mut Player, clock: &mut Clock, line: &str) -> Result<()> {
-    let value = cast::json(alloc, line)?;
-    player.play(Event::read(&value, clock)?)
 }
 
 /// Writes the counts in `tally`, followed by `rows`, one row per line.
 fn write<R: Print>(rt: &R, tally: &Tally, rows: &[String]) -> io::Result<()> {
     println!(rt; "{tally}\n")?;
+    write_rows(rt, rows)
+}
+
+fn write_rows<R: Print>(rt: &R, rows: &[String]) -> io::Result<()> {
     for row in rows {
         println!(rt; "{row}")?;
     }
     Ok(())
 }
 
-/// Reads a recording from standard input, and writes the counts and the rows that the second viewer
-/// displays. A closed output is not an error.
-fn run<R: AllocGlobal + Input + Print>(rt: &R) -> Result<()> {
-    let recording = io::read_to_string(rt.alloc(), rt.reader()).context("reading the recording")?;
-    let player = play(rt.alloc(), recording.as_str())?;
-    let rows = player.rows(rt.alloc())?;
-    match write(rt, &player.tally(), rows.as_slice()) {
+/// Returns the result of writing; a closed output is not an error.
+fn or_closed(written: io::Result<()>) -> Result<()> {
+    match written {
         Err(error) if error.kind() != ErrorKind::BrokenPipe => Err(error.into()),
         _ => Ok(()),
     }
 }
 
-/// Returns whether there are command-line arguments. Also returns `true` if they cannot be read.
-fn has_arguments<R: AllocGlobal + Env>(rt: &R) -> bool {
-    match env::args(rt) {
-        Ok(words) => words.skip(1).next().is_some(),
-        Err(_) => true,
+fn read_recording<R: AllocGlobal + Input>(rt: &R) -> Result<String> {
+    Ok(io::read_to_string(rt.alloc(), rt.reader()).context("reading the recording")?)
+}
+
+/// Reads a recording from standard input, and writes the counts and the rows that the second viewer
+/// displays.
+fn play<R: AllocGlobal + Input + Print>(rt: &R) -> Result<()> {
+    let text = read_recording(rt)?;
+    let player = play_all(rt.alloc(), text.as_str())?;
+    let rows = player.rows(rt.alloc())?;
+    or_closed(write(rt, &player.tally(), rows.as_slice()))
+}
+
+/// Reads a recording from standard input, and writes the screen at a moment.
+fn show<R: AllocGlobal + Input + Print>(rt: &R, moment: Moment, form: Form) -> Result<()> {
+    let text = read_recording(rt)?;
+    let recording = Recording::read(rt.alloc(), text.as_str())?;
+    let terminal = terminal_at(rt.alloc(), &recording, moment)?;
+    write_screen(rt, terminal.screen(), form)
+}
+
+/// Writes a screen: the text of each row in a line, or the bytes of a redraw or of an image.
+fn write_screen<R: AllocGlobal + Print>(rt: &R, screen: &Screen, form: Form) -> Result<()> {
+    match form {
+        Form::Text => {
+            let (_, cols) = screen.size();
+            let rows: Texts = screen.rows(0, cols.get()).try_collect(rt.alloc());
+            or_closed(write_rows(rt, rows?.as_slice()))
+        }
+        Form::Redraw => or_closed(rt.print(screen.contents_formatted()?.as_str())),
+        Form::Svg => or_closed(rt.print(vt_picture::svg(rt.alloc(), screen)?.as_str())),
     }
 }
 
-fn main(rt: HostRuntime) -> ExitCode {
-    if has_arguments(&rt) {
-        let _ = eprintln!(rt; "{USAGE}");
-        return ExitCode::from(2);
+/// Does what the command-line arguments ask for, and returns whether they are valid.
+fn perform<R: AllocGlobal + Env + Input + Print>(rt: &R) -> Result<bool> {
+    let words: Vec<String> = env::args(rt)?.skip(1).collect(rt.alloc())?;
+    match read_words(words.as_slice()) {
+        Some(Request::Play) => play(rt)?,
+        Some(Request::Screen(moment, form)) => show(rt, moment, form)?,
+        Some(Request::Version) => println!(rt; "vtcast {VERSION}")?,
+        None => return Ok(false),
     }
-    match run(&rt) {
-        Ok(()) => ExitCode::SUCCESS,
+    Ok(true)
+}
+
+fn main(rt: HostRuntime) -> ExitCode {
+    match perform(&rt) {
+        Ok(true) => ExitCode::SUCCESS,
+        Ok(false) => {
+            let _ = eprintln!(rt; "{USAGE}");
+            ExitCode::from(2)
+        }
         Err(error) => {
-            let _ = eprintln!(rt; "example_cast: {error:#}");
+            let _ = eprintln!(rt; "vtcast: {error:#}");
             ExitCode::FAILURE
         }
     }

@@ -1,6 +1,8 @@
 //! Playing a recording through a mirror.
 
 use crate::cast::{Action, Event};
+use crate::drawing::Drawing;
+use crate::recording::Play;
 use crate::tally::{Count, Tally};
 use crate::viewer::{Kind, Viewer};
 use anyhow::Result;
@@ -12,6 +14,7 @@ use vt_mirror::Mirror;
 #[derive(Drop)]
 pub struct Player {
     mirror: Mirror,
+    drawing: Drawing,
     drawn: Viewer,
     scrolling: Viewer,
 
@@ -28,6 +31,7 @@ impl Player {
         let scrolling = Viewer::join(alloc, &mut mirror, Kind::Scrolling, (rows, cols))?;
         Ok(Player {
             mirror,
+            drawing: Drawing::new(alloc),
             drawn,
             scrolling,
             time: None,
@@ -35,24 +39,10 @@ impl Player {
         })
     }
 
-    /// Plays an event. Events with the same time are sent to the viewers together, when an event
-    /// with a different time is played.
-    pub fn play(&mut self, event: Event<'_>) -> Result<()> {
-        if let Action::Other = event.action {
-            return Ok(());
-        }
-        if self.time != Some(event.time) {
-            self.update()?;
-        }
-        self.time = Some(event.time);
-        match event.action {
-            Action::Output(text) => {
-                self.mirror.process(text.as_bytes())?;
-                self.read.add(text.len());
-            }
-            Action::Resize { rows, cols } => self.mirror.set_size(rows, cols)?,
-            Action::Other => {}
-        }
+    /// Parses output, with its line drawing translated.
+    fn output(&mut self, text: &str) -> Result<()> {
+        self.mirror.process(self.drawing.translate(text)?)?;
+        self.read.add(text.len());
         Ok(())
     }
 
@@ -77,5 +67,25 @@ impl Player {
             drawn: self.drawn.updates(),
             scrolling: self.scrolling.updates(),
         }
+    }
+}
+
+impl Play for Player {
+    /// Plays an event. Events with the same time are sent to the viewers together, when an event
+    /// with a different time is played.
+    fn play(&mut self, event: Event<'_>, _: u64) -> Result<bool> {
+        if let Action::Other = event.action {
+            return Ok(true);
+        }
+        if self.time != Some(event.time) {
+            self.update()?;
+        }
+        self.time = Some(event.time);
+        match event.action {
+            Action::Output(text) => self.output(text)?,
+            Action::Resize { rows, cols } => self.mirror.set_size(rows, cols)?,
+            Action::Other => {}
+        }
+        Ok(true)
     }
 }

@@ -1,10 +1,6 @@
-//! `example_picture ROWS COLS`: reads what a program wrote to its terminal, and writes a picture of
-//! the resulting screen as SVG.
+//! `example_picture`, installed as `vtpicture`: reads what a program wrote to its terminal, and
+//! writes a picture of the resulting screen as SVG.
 #![tactic(auto)]
-
-mod color;
-mod drawing;
-mod spot;
 
 use anyhow::Result;
 use std::env;
@@ -14,18 +10,31 @@ use std::process::ExitCode;
 use std::rt::Env;
 use vt100::Parser;
 
-const USAGE: &str = "usage: example_picture ROWS COLS";
+const USAGE: &str = "usage: vtpicture ROWS COLS";
 
-/// Returns the rows and columns given by the command-line arguments, or `None` if the arguments are
-/// invalid.
-fn asked_size<R: AllocGlobal + Env>(rt: &R) -> Result<Option<(NonZeroU16, NonZeroU16)>> {
-    let words: Vec<String> = env::args(rt)?.skip(1).collect(rt.alloc())?;
-    let [rows, cols] = words.as_slice() else {
-        return Ok(None);
-    };
-    let rows = rows.parse::<NonZeroU16>();
-    let cols = cols.parse::<NonZeroU16>();
-    Ok(rows.ok().zip(cols.ok()))
+/// The version of Caldrosk.
+const VERSION: &str = "7";
+
+/// What the command-line arguments ask for.
+#[derive(Clone, Copy)]
+enum Request {
+    /// To draw a screen of this size.
+    Draw { rows: NonZeroU16, cols: NonZeroU16 },
+
+    /// To print the version.
+    Version,
+}
+
+/// Returns what the command-line arguments ask for, or `None` if they are invalid.
+fn read_words(words: &[String]) -> Option<Request> {
+    match words {
+        [word] if word.as_str() == "--version" => Some(Request::Version),
+        [rows, cols] => Some(Request::Draw {
+            rows: rows.parse::<NonZeroU16>().ok()?,
+            cols: cols.parse::<NonZeroU16>().ok()?,
+        }),
+        _ => None,
+    }
 }
 
 /// Reads standard input to its end into a screen with `rows` rows and `cols` columns, and writes
@@ -35,17 +44,19 @@ fn draw<R: AllocGlobal + Input + Print>(rt: &R, rows: NonZeroU16, cols: NonZeroU
     rt.reader().read_to_end(&mut bytes)?;
     let mut parser = Parser::new(rt.alloc(), rows, cols, 0)?;
     parser.process(bytes.as_slice())?;
-    let picture = drawing::svg(rt.alloc(), parser.screen())?;
+    let picture = vt_picture::svg(rt.alloc(), parser.screen())?;
     rt.print(picture.as_str())?;
     Ok(())
 }
 
-/// Draws the picture, and returns whether the command-line arguments were valid.
+/// Does what the command-line arguments ask for, and returns whether they are valid.
 fn run<R: AllocGlobal + Env + Input + Print>(rt: &R) -> Result<bool> {
-    let Some((rows, cols)) = asked_size(rt)? else {
-        return Ok(false);
-    };
-    draw(rt, rows, cols)?;
+    let words: Vec<String> = env::args(rt)?.skip(1).collect(rt.alloc())?;
+    match read_words(words.as_slice()) {
+        Some(Request::Draw { rows, cols }) => draw(rt, rows, cols)?,
+        Some(Request::Version) => println!(rt; "vtpicture {VERSION}")?,
+        None => return Ok(false),
+    }
     Ok(true)
 }
 
@@ -57,7 +68,7 @@ fn main(rt: HostRuntime) -> ExitCode {
             ExitCode::from(2)
         }
         Err(error) => {
-            let _ = eprintln!(rt; "example_picture: {error}");
+            let _ = eprintln!(rt; "vtpicture: {error}");
             ExitCode::FAILURE
         }
     }

@@ -16,6 +16,8 @@ mod copies_tests;
 mod effects_tests;
 pub mod examples;
 #[cfg(test)]
+mod kept_tests;
+#[cfg(test)]
 mod pages_tests;
 #[cfg(test)]
 mod printing_tests;

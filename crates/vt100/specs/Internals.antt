@@ -11,6 +11,7 @@ use Rattle.vt_screen.specs.Screen.{ScreenValue}
 use Rattle.vt_screen.specs.Steps.{Step, Print, LineFeed, ScrollUp, EnterAlternate}
 use Rattle.vt_screen.specs.Steps.{EnterFresh, EraseScrollback, CallBack}
 use Rattle.vt_screen.specs.Run.{CallRelation, Breaks, Performs, Refuses, State, StopsIn, Takes, state}
+use Rattle.vt100.specs.Erasures.{ErasesNothing}
 use Rattle.vt100.specs.Parser.{ParserValue, Ran, Stopped, StoppedAt, invokes_none, parser_value}
 use Rattle.vt100.specs.declared.sequence.Sequence.{Sequence}
 
@@ -59,11 +60,12 @@ pub record ReadsOrStops {S : Type 0} (does : CallRelation S)
   pub where_stopped : IfErr result (λ count. StoppedAt does old bytes count new)
 
 -- The effect of a call that reads the first `count` of the bytes without invoking callbacks: the screen `before` becomes
--- `after`, and the scanner's value `held` is unchanged.
+-- `after`, the scanner's value `held` is unchanged, and no scrollback is erased.
 pub record ReadsSilently (held : ScannerValue) (before : ScreenValue) (bytes : List ℕ) (count : ℕ)
     (after : ScreenValue) : Type 0 where
   pub inside : count ≤ length bytes
   pub ran : Ran invokes_none (parser_value held before tt) (take count bytes) (parser_value held after tt)
+  pub keeps : ErasesNothing held (take count bytes)
 
 -- The `unhandled_csi` call that reports a control sequence.
 abbrev pub report_of : Sequence → CallValue

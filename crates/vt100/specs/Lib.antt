@@ -1,4 +1,5 @@
 pub mod Parser
+pub mod Erasures
 pub mod Internals
 pub mod Pieces
 pub mod Calls

@@ -12,21 +12,22 @@ use Rattle.vt_screen.specs.Screen.{ScreenValue, fresh_screen}
 use Rattle.vt_screen.specs.Run as screen
 use Rattle.vt_screen.specs.Run.{CallRelation, Performs, Breaks, StopsIn}
 
--- The value of a parser: the state held by its scanner, its screen, its callbacks, and whether the parser ran out of
--- memory.
+-- The value of a parser: the state held by its scanner, its screen, its callbacks, whether the parser ran out of memory,
+-- and how often its input has asked to erase scrollback.
 pub record ParserValue (S : Type 0) : Type 0 where
   pub scanner : ScannerValue
   pub screen : ScreenValue
   pub callbacks : S
   pub is_failed : Bool
+  pub erasures : ℕ
 
--- A parser that has the given scanner, screen and callbacks and has not run out of memory.
+-- A parser that has the given scanner, screen and callbacks, has not run out of memory and has counted no erasures.
 abbrev pub parser_value : {S : Type 0} → ScannerValue → ScreenValue → S → ParserValue S
 parser_value scanner screen callbacks =
-    record { scanner = scanner; screen = screen; callbacks = callbacks; is_failed = false }
+    record { scanner = scanner; screen = screen; callbacks = callbacks; is_failed = false; erasures = 0 }
 
--- The parser has not run out of memory and has a blank screen of the given size and scrollback capacity, and the given
--- callbacks.
+-- The parser has not run out of memory, has counted no erasures, and has a blank screen of the given size and scrollback
+-- capacity, and the given callbacks.
 abbrev pub HasFreshScreen : {S : Type 0} → (rows cols capacity : ℕ) → S → ParserValue S → Type 0
 HasFreshScreen rows cols capacity callbacks parser =
     parser ≡ parser_value parser.scanner (fresh_screen rows cols capacity) callbacks

@@ -4,6 +4,7 @@
 ghost use Rattle.std.specs.List.{AllByRecursion, FoldsTo};
 ghost use Rattle.std.specs.Prelude.{◌≡◌, ◌<◌, ℕ, Bool, false, true, List, [], ◌∷◌, ◌++◌, Some, length, map};
 ghost use Rattle.vt100.specs.Parser.{IsHarmless, ParserValue, Ran, Stopped, parser_value, pieces_joined, does_nothing};
+ghost use Rattle.vt100.specs.Parser.{stage};
 ghost use Rattle.vt100.specs.Pieces.{AreDiffs, AreFine, HasRead, IsFine, IsPlainAgain, IsPlainParser, IsPlainWithModes};
 ghost use Rattle.vt100.specs.Pieces.{IsUnscrolledParser, ReadDiff, ReadsDiff, last_of};
 ghost use Rattle.vt100.specs.Pieces.{Processes, Processing, ShowsLast, bytes_in};
@@ -11,7 +12,7 @@ ghost use Rattle.vt100.specs.Streams.{IsFreshParser, IsRecorder, MakesCall, Pars
 ghost use Rattle.vt100.specs.Streams.{screen_by, calls_by, whole_text};
 ghost use Rattle.vt_grid.specs.Page.{SameSize};
 ghost use Rattle.vt_rows.specs.Basic.{Written, nothing_written};
-ghost use Rattle.vt_scan.specs.Automaton.{State, start};
+ghost use Rattle.vt_scan.specs.Automaton.{State, run, start};
 ghost use Rattle.vt_scan.specs.Scanner.{StandsFor};
 ghost use Rattle.vt_screen.specs.Again.{KeepsPlain, MakesPlain};
 ghost use Rattle.vt_screen.specs.Capture.{all_rows, basic_texts};
@@ -19,6 +20,7 @@ ghost use Rattle.vt_screen.specs.Chain.{CanShowOn, chain_text, last_screen};
 ghost use Rattle.vt_screen.specs.Diffs.{KeepsScreensPlain};
 ghost use Rattle.vt_screen.specs.Pages.{screen_after_resize};
 ghost use Rattle.vt_screen.specs.Reading.{Terminal, terminal_after, terminal};
+ghost use Rattle.vt_screen.specs.Run.{Performs};
 ghost use Rattle.vt_screen.specs.Screen.{IsScreen, ScreenValue, fresh_screen};
 ghost use Rattle.vt_screen.specs.Shown.{display};
 ghost use Rattle.vt_screen.specs.States.{AreModes, HasDefaultMouseAndStyle, SetsModesPlainly, SetsModesOnScreens};
@@ -94,6 +96,18 @@ pub fn fresh_parsers<CB: Callbacks>()
         → length p.screen.page.rows ≡ rows }
     ensures cols { (rows cols capacity : ℕ) (p : ParserValue CB) → IsFreshParser rows cols capacity p
         → p.screen.page.width ≡ cols }
+{}
+
+/// States that a parser in ground state parses further bytes as a new parser does: the events are
+/// those that the bytes have from the start, and they are performed on its own screen and callbacks.
+///
+/// The clause `start` of `Parser::is_ground` provides the premise that the parser is in ground
+/// state, and the clause `ran` of `Parser::process` the premise that the bytes were parsed.
+pub fn ground<CB: Callbacks>()
+    ensures events { (p q : ParserValue CB) (bytes : List ℕ) → StandsFor p.scanner start → Ran CB.does p bytes q
+        → FoldsTo (Performs CB.does) (stage p) (run start bytes).events (stage q) }
+    ensures scanner { (p q : ParserValue CB) (bytes : List ℕ) → StandsFor p.scanner start → Ran CB.does p bytes q
+        → StandsFor q.scanner (run start bytes).state }
 {}
 
 /// States that a resized parser has the new size, and that it is plain if it

@@ -34,6 +34,7 @@
 
 pub mod capture;
 mod csi;
+mod erasures;
 pub mod laws;
 mod numbers;
 mod osc;

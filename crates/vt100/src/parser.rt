@@ -1,10 +1,12 @@
 //! The parser, which parses input, applies it to the screen that it owns, and invokes callbacks.
 
 ghost use Rattle.std.specs.Borrow.{sem, Lends, LendsBoth};
-ghost use Rattle.std.specs.Prelude.{◌≡◌, ◌<◌, IfOk, IsErr, OnErr, OnOk, false, length};
+ghost use Rattle.std.specs.Prelude.{◌≡◌, ◌<◌, ◌↔◌, [], Err, IfOk, IsErr, IsTrue, OnErr, OnOk, false, length, take};
 ghost use Rattle.vt_cells.specs.Refusals.{OnlyOutOfMemory};
+ghost use Rattle.vt_cells.specs.declared.error.Error.TheVariants.{OutOfMemory};
 ghost use Rattle.vt100.specs.Calls.{ParserProcesses, ParserReadsUnit};
-ghost use Rattle.vt100.specs.Parser.{HasFreshScreen};
+ghost use Rattle.vt100.specs.Erasures.{CountsErasures, CountsUntilStopped};
+ghost use Rattle.vt100.specs.Parser.{HasFreshScreen, stage};
 ghost use Rattle.vt100.specs.contracts.parser.Parser.{the_row as parser_row};
 ghost use Rattle.vt_scan.specs.Automaton.{State, start};
 ghost use Rattle.vt_scan.specs.Scanner.{StandsFor, unfinished_command};
@@ -29,6 +31,7 @@ pub struct Parser<CB: Callbacks = ()> {
     screen: Screen,
     callbacks: CB,
     is_failed: bool,
+    erasures: u64,
 }
 
 impl<CB: Callbacks> Model for Parser<CB> {
@@ -37,7 +40,13 @@ impl<CB: Callbacks> Model for Parser<CB> {
     ghost Value = { ParserValue CB };
 
     ghost view = { λ p.
-        record { scanner = p.scanner; screen = p.screen; callbacks = p.callbacks; is_failed = p.is_failed } };
+        record {
+          scanner = p.scanner;
+          screen = p.screen;
+          callbacks = p.callbacks;
+          is_failed = p.is_failed;
+          erasures = p.erasures;
+        } };
 }
 
 // `Drop` is implemented by hand so that dropping is a single call in callers' proofs, as for `Screen`.
@@ -48,6 +57,7 @@ impl<CB: Callbacks + Drop> Drop for Parser<CB> {
             screen: _,
             callbacks: _,
             is_failed: _,
+            erasures: _,
         } = self;
     }
 }
@@ -137,6 +147,7 @@ impl<CB: Callbacks> Parser<CB> {
             screen,
             callbacks,
             is_failed: false,
+            erasures: 0,
         })
     }
 
@@ -172,6 +183,10 @@ impl<CB: Callbacks> Parser<CB> {
     /// ```
     pub fn process(&mut self, bytes: &[u8]) -> Result<(), Error>
         ensures call { ParserProcesses CB.does self.old bytes.now result self.new }
+        ensures erased { IfOk result
+            (λ _. CountsErasures self.old.scanner bytes.now self.old.erasures self.new.erasures) }
+        ensures erased_before { result ≡ Err OutOfMemory → CountsUntilStopped CB.does
+            self.old.scanner (stage self.old) self.old.erasures bytes.now (stage self.new) self.new.erasures }
     {
         if self.is_failed {
             return Err(Error::Failed);
@@ -180,6 +195,7 @@ impl<CB: Callbacks> Parser<CB> {
             &mut self.scanner,
             &mut self.screen,
             &mut self.callbacks,
+            &mut self.erasures,
             bytes,
         ) {
             Ok(()) => Ok(()),
@@ -206,12 +222,17 @@ impl<CB: Callbacks> Parser<CB> {
     pub fn process_unit(&mut self, bytes: &[u8]) -> (usize, Result<(), Error>)
         requires { 0 < length bytes.now }
         ensures call { ParserReadsUnit CB.does self.old bytes.now result.0 result.1 self.new }
+        ensures erased { IfOk result.1
+            (λ _. CountsErasures self.old.scanner (take result.0 bytes.now) self.old.erasures self.new.erasures) }
+        ensures erased_none { IsErr result.1
+            → CountsErasures self.old.scanner [] self.old.erasures self.new.erasures }
     {
         if self.is_failed {
             return (0, Err(Error::Failed));
         }
         let (scanner, screen) = (&mut self.scanner, &mut self.screen);
-        match processing::process_some(scanner, screen, &mut self.callbacks, bytes) {
+        let erasures = &mut self.erasures;
+        match processing::process_some(scanner, screen, &mut self.callbacks, erasures, bytes) {
             Ok(count) => (count, Ok(())),
             Err(before) => {
                 self.is_failed = true;
@@ -247,6 +268,52 @@ impl<CB: Callbacks> Parser<CB> {
             → result ≡ length (unfinished_command state.kind state.collected) }
     {
         self.scanner.pending_len()
+    }
+
+    /// Returns whether the parser is in ground state: no escape sequence, control string or character
+    /// is half read. The parser then parses further bytes as a new parser does, whose screen and
+    /// callbacks are the current ones ([`laws::ground`](crate::laws::ground)).
+    ///
+    /// A parser that has run out of memory may or may not be in ground state. It reads nothing more.
+    ///
+    /// # Examples
+    ///
+    /// ```text
+    /// parser.process(b"text \x1b[31")?;
+    /// assert!(!parser.is_ground());
+    /// parser.process(b"m")?;
+    /// assert!(parser.is_ground());
+    /// ```
+    #[inline]
+    pub fn is_ground(&self) -> bool
+        ensures start { IsTrue result ↔ StandsFor self.now.scanner start }
+        ensures state { (state : State) → StandsFor self.now.scanner state → IsTrue result ↔ (state ≡ start) }
+    {
+        self.scanner.is_ground()
+    }
+
+    /// Returns how often the input has asked to erase scrollback: the number of RIS (`\x1bc`) and
+    /// ED 3 (`\x1b[3J` or `\x1b[?3J`) sequences that the parser has read, even if scrollback was
+    /// empty, or if ED 3 had no effect because the alternate page was displayed. Calls of
+    /// [`Screen::clear_scrollback`] are not counted.
+    ///
+    /// A caller that copies rows from scrollback can compare the count before and after a call of
+    /// [`process`](Parser::process) to find out whether its copies are outdated. The count stays at
+    /// `u64::MAX` when it has reached it.
+    ///
+    /// # Examples
+    ///
+    /// ```text
+    /// parser.process(b"text\x1b[2J")?;
+    /// assert_eq!(parser.scrollback_erasures(), 0);
+    /// parser.process(b"\x1b[3J\x1bc")?;
+    /// assert_eq!(parser.scrollback_erasures(), 2);
+    /// ```
+    #[inline]
+    pub fn scrollback_erasures(&self) -> u64
+        ensures { result ≡ self.now.erasures }
+    {
+        self.erasures
     }
 
     /// Resizes both pages of the screen, as [`Screen::set_size`] does. Rows

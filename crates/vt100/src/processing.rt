@@ -1,12 +1,14 @@
 //! The loop that parses bytes and applies the resulting events.
 
-ghost use Rattle.std.specs.Prelude.{◌-◌, ◌<◌, ◌≤◌, IfOk, IsErr, length, map, option_to_list, slice_index_or};
+ghost use Rattle.std.specs.Prelude.{◌-◌, ◌<◌, ◌≤◌, ℕ, IfOk, IsErr, length, map, option_to_list, slice_index_or};
 ghost use Rattle.vt_cells.specs.Refusals.{OnlyOutOfMemory};
+ghost use Rattle.vt100.specs.Erasures.{CountsErasures, CountsRead, CountsUntilStopped};
 ghost use Rattle.vt100.specs.Internals.{PerformsOrBreaks, ReadsOrStops, ReadsSilently};
 ghost use Rattle.vt100.specs.Parser.{CallsByLast, Ran, Stopped, parser_value};
 ghost use Rattle.vt_scan.specs.Scanner.{ReadsItself, event_of, events_in};
 ghost use Rattle.vt_screen.specs.Run.{state};
 
+use crate::erasures::{count_each, count_escape, count_sequence};
 use crate::perform::{
     command, control_sequence, escape_sequence, execute, perform, print, print_apart,
 };
@@ -19,8 +21,8 @@ use vt_screen::{Callbacks, Screen};
 /// the row.
 const RUN: usize = 64;
 
-/// Parses `bytes`, applies the resulting events to the screen, and invokes
-/// callbacks.
+/// Parses `bytes`, applies the resulting events to the screen, invokes callbacks, and adds to
+/// `erasures` the number of events that erase scrollback.
 ///
 /// # Errors
 ///
@@ -30,6 +32,7 @@ pub fn process<CB: Callbacks>(
     scanner: &mut Scanner,
     screen: &mut Screen,
     callbacks: &mut CB,
+    erasures: &mut u64,
     bytes: &[u8],
 ) -> Result<(), Error>
     ensures ran { IfOk result (λ _. Ran CB.does (parser_value scanner.old screen.old callbacks.old)
@@ -37,10 +40,13 @@ pub fn process<CB: Callbacks>(
     ensures stopped { IsErr result → Stopped CB.does (parser_value scanner.old screen.old callbacks.old)
         bytes.now (parser_value scanner.new screen.new callbacks.new) }
     ensures memory { OnlyOutOfMemory result }
+    ensures erased { IfOk result (λ _. CountsErasures scanner.old bytes.now erasures.old erasures.new) }
+    ensures erased_before { IsErr result → CountsUntilStopped CB.does scanner.old
+        (state callbacks.old screen.old) erasures.old bytes.now (state callbacks.new screen.new) erasures.new }
 {
     let mut rest = bytes;
     while !rest.is_empty() {
-        match process_some(scanner, screen, callbacks, rest) {
+        match process_some(scanner, screen, callbacks, erasures, rest) {
             Ok(count) => rest = &rest[count..],
             Err(_) => return Err(Error::OutOfMemory),
         }
@@ -61,6 +67,7 @@ pub fn process_some<CB: Callbacks>(
     scanner: &mut Scanner,
     screen: &mut Screen,
     callbacks: &mut CB,
+    erasures: &mut u64,
     bytes: &[u8],
 ) -> Result<usize, usize>
     requires { 0 < length bytes.now }
@@ -68,12 +75,13 @@ pub fn process_some<CB: Callbacks>(
     ensures last { IfOk result (λ count. CallsByLast callbacks.old screen.old scanner.old bytes.now count callbacks.new) }
     ensures read { ReadsOrStops CB.does (parser_value scanner.old screen.old callbacks.old) bytes.now
         (parser_value scanner.new screen.new callbacks.new) result }
+    ensures erased { CountsRead scanner.old bytes.now erasures.old erasures.new result }
 {
     if scanner.is_text(bytes[0]) {
         return print_some(scanner, screen, callbacks, bytes);
     }
     if bytes[0] >= 0x80 {
-        let count = process_high(scanner, screen, callbacks, bytes)?;
+        let count = process_high(scanner, screen, callbacks, erasures, bytes)?;
         return Ok(count);
     }
     if scanner.is_control(bytes[0]) {
@@ -82,11 +90,11 @@ pub fn process_some<CB: Callbacks>(
             Err(_) => Err(0),
         };
     }
-    let count = process_sequence(scanner, screen, callbacks, bytes)?;
+    let count = process_sequence(scanner, screen, callbacks, erasures, bytes)?;
     if count > 0 {
         return Ok(count);
     }
-    process_rest(scanner, screen, callbacks, bytes)
+    process_rest(scanner, screen, callbacks, erasures, bytes)
 }
 
 /// Parses leading bytes of `bytes` that begin, continue or end a sequence or an operating system
@@ -101,17 +109,19 @@ fn process_sequence<CB: Callbacks>(
     scanner: &mut Scanner,
     screen: &mut Screen,
     callbacks: &mut CB,
+    erasures: &mut u64,
     bytes: &[u8],
 ) -> Result<usize, usize>
     ensures last { IfOk result (λ count. CallsByLast callbacks.old screen.old scanner.old bytes.now count callbacks.new) }
     ensures read { ReadsOrStops CB.does (parser_value scanner.old screen.old callbacks.old) bytes.now
         (parser_value scanner.new screen.new callbacks.new) result }
+    ensures erased { CountsRead scanner.old bytes.now erasures.old erasures.new result }
 {
     let leading = scanner.take_introducer(bytes);
     if leading == bytes.len() {
         return Ok(leading);
     }
-    match end_sequence(scanner, screen, callbacks, &bytes[leading..]) {
+    match end_sequence(scanner, screen, callbacks, erasures, &bytes[leading..]) {
         Ok(last) => Ok(leading + last),
         Err(before) => Err(leading + before),
     }
@@ -130,21 +140,27 @@ fn end_sequence<CB: Callbacks>(
     scanner: &mut Scanner,
     screen: &mut Screen,
     callbacks: &mut CB,
+    erasures: &mut u64,
     bytes: &[u8],
 ) -> Result<usize, usize>
     requires { 0 < length bytes.now }
     ensures last { IfOk result (λ count. CallsByLast callbacks.old screen.old scanner.old bytes.now count callbacks.new) }
     ensures read { ReadsOrStops CB.does (parser_value scanner.old screen.old callbacks.old) bytes.now
         (parser_value scanner.new screen.new callbacks.new) result }
+    ensures erased { CountsRead scanner.old bytes.now erasures.old erasures.new result }
 {
     if scanner.take_final_byte(bytes[0]) {
         return match control_sequence(scanner, screen, callbacks, bytes[0]) {
-            Ok(()) => Ok(1),
+            Ok(()) => {
+                count_sequence(scanner, bytes[0], erasures);
+                Ok(1)
+            }
             Err(_) => Err(0),
         };
     }
     if scanner.take_escape_byte(bytes[0]) {
         escape_sequence(scanner, screen, callbacks, bytes[0]);
+        count_escape(scanner, bytes[0], erasures);
         return Ok(1);
     }
     if scanner.take_command_byte(bytes[0]) {
@@ -167,6 +183,7 @@ fn process_one<CB: Callbacks>(
     scanner: &mut Scanner,
     screen: &mut Screen,
     callbacks: &mut CB,
+    erasures: &mut u64,
     bytes: &[u8],
 ) -> Result<usize, usize>
     requires { 0 < length bytes.now }
@@ -174,6 +191,7 @@ fn process_one<CB: Callbacks>(
     ensures last { IfOk result (λ count. CallsByLast callbacks.old screen.old scanner.old bytes.now count callbacks.new) }
     ensures read { ReadsOrStops CB.does (parser_value scanner.old screen.old callbacks.old) bytes.now
         (parser_value scanner.new screen.new callbacks.new) result }
+    ensures erased { CountsRead scanner.old bytes.now erasures.old erasures.new result }
 {
     if let Some((character, count)) = scanner.whole_character(bytes) {
         return match print(screen, callbacks, character) {
@@ -187,7 +205,7 @@ fn process_one<CB: Callbacks>(
             Err(_) => Err(0),
         };
     }
-    process_rest(scanner, screen, callbacks, bytes)
+    process_rest(scanner, screen, callbacks, erasures, bytes)
 }
 
 /// Parses and applies the leading bytes of `bytes` that belong to a control string (OSC, DCS, SOS,
@@ -203,6 +221,7 @@ fn process_rest<CB: Callbacks>(
     scanner: &mut Scanner,
     screen: &mut Screen,
     callbacks: &mut CB,
+    erasures: &mut u64,
     bytes: &[u8],
 ) -> Result<usize, usize>
     requires { 0 < length bytes.now }
@@ -210,6 +229,7 @@ fn process_rest<CB: Callbacks>(
     ensures last { IfOk result (λ count. CallsByLast callbacks.old screen.old scanner.old bytes.now count callbacks.new) }
     ensures read { ReadsOrStops CB.does (parser_value scanner.old screen.old callbacks.old) bytes.now
         (parser_value scanner.new screen.new callbacks.new) result }
+    ensures erased { CountsRead scanner.old bytes.now erasures.old erasures.new result }
 {
     let skipped = scanner.skipped_len(bytes);
     if skipped > 0 {
@@ -226,6 +246,7 @@ fn process_rest<CB: Callbacks>(
     };
     match perform_each(scanner, screen, callbacks, events) {
         Ok(()) => {
+            count_each(scanner, events, erasures);
             scanner.release_text();
             Ok(1)
         }
@@ -255,6 +276,7 @@ fn print_some<CB: Callbacks>(
     ensures last { IfOk result (λ count. CallsByLast callbacks.old screen.old scanner.now bytes.now count callbacks.new) }
     ensures read { ReadsOrStops CB.does (parser_value scanner.now screen.old callbacks.old) bytes.now
         (parser_value scanner.now screen.new callbacks.new) result }
+    ensures keeps { (count : ℕ) → CountsRead scanner.now bytes.now count count result }
 {
     let room = usize::from(printing::room(screen));
     if room == 0 {
@@ -281,6 +303,7 @@ fn process_high<CB: Callbacks>(
     scanner: &mut Scanner,
     screen: &mut Screen,
     callbacks: &mut CB,
+    erasures: &mut u64,
     bytes: &[u8],
 ) -> Result<usize, usize>
     requires { 0 < length bytes.now }
@@ -288,12 +311,13 @@ fn process_high<CB: Callbacks>(
     ensures last { IfOk result (λ count. CallsByLast callbacks.old screen.old scanner.old bytes.now count callbacks.new) }
     ensures read { ReadsOrStops CB.does (parser_value scanner.old screen.old callbacks.old) bytes.now
         (parser_value scanner.new screen.new callbacks.new) result }
+    ensures erased { CountsRead scanner.old bytes.now erasures.old erasures.new result }
 {
     let printed = print_run(scanner, screen, bytes);
     if printed > 0 {
         return Ok(printed);
     }
-    process_one(scanner, screen, callbacks, bytes)
+    process_one(scanner, screen, callbacks, erasures, bytes)
 }
 
 /// Prints a run of three-byte wide characters, or a run of narrow characters below U+3000, from the

@@ -1,6 +1,6 @@
 -- The results of a parser and of a mirror as statuses, and reading bytes up to an event.
-use Rattle.std.proofs.Common.{◌≡◌, ◌≢◌, ◌↔◌, ◌+◌, ◌<◌, inl, inr, ℕ, List, length, take, drop, refl, sym, subst, ◌∙◌, arith, Bool, true, false, not, ◌||◌, ◌==◌, ◌&&◌}
-use Rattle.std.proofs.Common.{◌++◌, ◌-◌, ap, nat_lt, slice_index_or}
+use Rattle.std.proofs.Common.{◌≡◌, ◌≢◌, ◌↔◌, ◌+◌, ◌<◌, inl, inr, ℕ, List, [], length, take, drop, refl, sym, subst, ◌∙◌, arith, Bool, true, false, not, ◌||◌, ◌==◌, ◌&&◌}
+use Rattle.std.proofs.Common.{◌++◌, ◌-◌, ◌/◌, ap, nat_lt, slice_index_or}
 use Rattle.std.proofs.Math.Seq.{take-add, take-length}
 use Rattle.std.proofs.lemmas.Bool.{false≢true}
 use Rattle.std.proofs.lemmas.List.{append-nil, drop-drop, get_or-drop, length-drop}
@@ -13,6 +13,8 @@ use Rattle.vt100.specs.Calls.{ParserReadsUnit}
 use Rattle.std.specs.Prelude.{Result, Ok, Err, IfErr, IfOk, IsErr}
 use Rattle.vt_cells.specs.declared.error.Error.{Error}
 use Rattle.vt_cells.specs.declared.error.Error.TheVariants.{Failed, NoNumber, OutOfMemory}
+use Rattle.vt100.specs.Erasures.{CountsErasures, CountsUntilStopped, erasures_after}
+use Rattle.vt100.proofs.Erasing.{counts_on}
 use Rattle.vt100.proofs.Running.{ran_then}
 use Rattle.vt100.specs.Parser.{IsHarmless, IsRefused, ParserValue, Ran, Stopped, StoppedAt, stage}
 use Rattle.vt100_c.specs.Reading.{IsQuietBefore, IsQuietBetween, ReadsFrom, ReadsParser, ReadsUnit, are_bare_rows, batch, is_quiet, mark_of}
@@ -29,8 +31,10 @@ pub parser_reads : (old new : ParserValue Logged) (bytes : List ℕ) (answer : R
     → (old.is_failed ≡ true → (answer ≡ Err Failed) × (new ≡ old)) → (answer ≡ Err Failed → old.is_failed ≡ true)
     → IfErr answer (λ error. error ≢ NoNumber) → (new.is_failed ≡ true ↔ IsErr answer)
     → (old.is_failed ≡ false → IsHarmless Logs old bytes → answer ≡ Ok tt)
+    → IfOk answer (λ _. CountsErasures old.scanner bytes old.erasures new.erasures)
+    → (answer ≡ Err OutOfMemory → CountsUntilStopped Logs old.scanner (stage old) old.erasures bytes (stage new) new.erasures)
     → ReadsParser old bytes (status_of_result answer) new
-parser_reads old new bytes (Ok u) ran stopped before only other good harmless = record {
+parser_reads old new bytes (Ok u) ran stopped before only other good harmless erased until = record {
   ran = λ _. ran;
   stopped = λ e. absurd (cc e);
   failed_before = λ e. absurd (cc (before e).0);
@@ -39,8 +43,10 @@ parser_reads old new bytes (Ok u) ran stopped before only other good harmless = 
   works = λ _. not_true new.is_failed good.0;
   fails = λ no. absurd (no refl);
   harmless = λ _ _. refl;
+  erased = λ _. erased;
+  erased_before = λ e. absurd (cc e);
 }
-parser_reads old new bytes (Err OutOfMemory) ran stopped before only other good harmless = record {
+parser_reads old new bytes (Err OutOfMemory) ran stopped before only other good harmless erased until = record {
   ran = λ e. absurd (cc e);
   stopped = λ _. stopped refl;
   failed_before = λ e. absurd (cc (before e).0);
@@ -49,8 +55,10 @@ parser_reads old new bytes (Err OutOfMemory) ran stopped before only other good 
   works = λ e. absurd (cc e);
   fails = λ _. good.1 refl;
   harmless = λ whole quiet. absurd (cc (harmless whole quiet));
+  erased = λ e. absurd (cc e);
+  erased_before = λ _. until refl;
 }
-parser_reads old new bytes (Err Failed) ran stopped before only other good harmless = record {
+parser_reads old new bytes (Err Failed) ran stopped before only other good harmless erased until = record {
   ran = λ e. absurd (cc e);
   stopped = λ e. absurd (cc e);
   failed_before = λ e. (refl, (before e).1);
@@ -59,44 +67,55 @@ parser_reads old new bytes (Err Failed) ran stopped before only other good harml
   works = λ e. absurd (cc e);
   fails = λ _. good.1 refl;
   harmless = λ whole quiet. absurd (cc (harmless whole quiet));
+  erased = λ e. absurd (cc e);
+  erased_before = λ e. absurd (cc e);
 }
-parser_reads old new bytes (Err NoNumber) ran stopped before only other good harmless = absurd (other refl)
+parser_reads old new bytes (Err NoNumber) ran stopped before only other good harmless erased until = absurd (other refl)
 
 -- ---- units of bytes
 
 pub unit_read : (old new : ParserValue Logged) (bytes : List ℕ) (count : ℕ) (answer : Result (Unit {0}) Error)
-    → ParserReadsUnit Logs old bytes count answer new → ReadsUnit old bytes count (status_of_result answer) new
-unit_read old new bytes count (Ok done) unit = record {
+    → ParserReadsUnit Logs old bytes count answer new
+    → IfOk answer (λ _. CountsErasures old.scanner (take count bytes) old.erasures new.erasures)
+    → (IsErr answer → CountsErasures old.scanner [] old.erasures new.erasures)
+    → ReadsUnit old bytes count (status_of_result answer) new
+unit_read old new bytes count (Ok done) unit erased none = record {
   nonempty = λ _. unit.progress;
   inside = unit.inside;
   last = λ _. unit.last;
   ran = λ _. unit.ran;
+  erased = λ _. erased;
+  erased_none = λ no. absurd (no refl);
   works = λ _. (not_true old.is_failed (λ e. absurd (cc (unit.failed e).0)), not_true new.is_failed unit.for_good.0);
   memory = λ no. absurd (no refl);
   failed_before = λ no. absurd (no refl);
   fails = λ no. absurd (no refl);
 }
-unit_read old new bytes count (Err OutOfMemory) unit = record {
+unit_read old new bytes count (Err OutOfMemory) unit erased none = record {
   nonempty = λ e. absurd (cc e);
   inside = omega (arith, (unit.memory refl).inside);
   last = λ e. absurd (cc e);
   ran = λ e. absurd (cc e);
+  erased = λ e. absurd (cc e);
+  erased_none = λ _. none refl;
   works = λ e. absurd (cc e);
   memory = λ _ _. (refl, unit.memory refl);
   failed_before = λ _ e. absurd (cc (unit.failed e).0);
   fails = λ _. unit.for_good.1 refl;
 }
-unit_read old new bytes count (Err Failed) unit = record {
+unit_read old new bytes count (Err Failed) unit erased none = record {
   nonempty = λ e. absurd (cc e);
   inside = omega (arith, (unit.failed (unit.only refl)).2);
   last = λ e. absurd (cc e);
   ran = λ e. absurd (cc e);
+  erased = λ e. absurd (cc e);
+  erased_none = λ _. none refl;
   works = λ e. absurd (cc e);
   memory = λ _ good. absurd (false≢true (sym good ∙ unit.only refl));
   failed_before = λ _ e. (refl, (unit.failed e).2, (unit.failed e).1);
   fails = λ _. unit.for_good.1 refl;
 }
-unit_read old new bytes count (Err NoNumber) unit = absurd (unit.no_number refl)
+unit_read old new bytes count (Err NoNumber) unit erased none = absurd (unit.no_number refl)
 
 -- ---- reading up to an event
 
@@ -111,9 +130,18 @@ has_room : (is_full : Bool) → (not is_full || is_full) ≡ true
 has_room true = refl
 has_room false = refl
 
+still_space : (has_half is_whole : Bool) → ((has_half || true) && (is_whole || not is_whole)) ≡ true
+still_space true true = refl
+still_space true false = refl
+still_space false true = refl
+still_space false false = refl
+
 -- Since its own mark, a log has recorded no event at which reading stops.
-pub quiet_now : (log : Logged) → is_quiet (mark_of log) log ≡ true
-quiet_now log = λ i.
+pub quiet_now : (gathers : Bool) (log : Logged) → is_quiet (mark_of gathers log) log ≡ true
+quiet_now true log =
+    ap (λ (more : ℕ). (nat_lt (log.limit / 2) log.room || more == 0) && (log.is_whole || not log.is_whole))
+    (nothing_more (length log.records)) ∙ still_space (nat_lt (log.limit / 2) log.room) log.is_whole
+quiet_now false log = λ i.
     are_bare_rows (nothing_more (length log.records) i) (nothing_more (length log.rows) i)
     && (nat_lt (nothing_more log.room i) batch && (has_room (log.room == 0) i && as_whole log.is_whole i))
 
@@ -121,6 +149,7 @@ quiet_now log = λ i.
 pub record HasReadQuietly (mark : Mark) (old : ParserValue Logged) (bytes : List ℕ) (count : ℕ)
     (now : ParserValue Logged) : Type 0 where
   pub ran : Ran Logs old (take count bytes) now
+  pub erased : CountsErasures old.scanner (take count bytes) old.erasures now.erasures
   pub quiet : is_quiet mark now.callbacks ≡ true
   pub still : now.is_failed ≡ old.is_failed
   pub nothing : old.is_failed ≡ true → (count ≡ 0) × (now ≡ old)
@@ -129,6 +158,7 @@ pub quiet_at_first : (mark : Mark) (old : ParserValue Logged) (bytes : List ℕ)
     → is_quiet mark old.callbacks ≡ true → HasReadQuietly mark old bytes 0 old
 quiet_at_first mark old bytes quiet = record {
   ran = λ s stands. (stands, refl);
+  erased = λ s stands. refl;
   quiet = quiet;
   still = refl;
   nothing = λ _. (refl, refl);
@@ -140,6 +170,14 @@ next_ran old now new bytes at count first second =
     subst (λ (read : List ℕ). Ran Logs old read new) (sym (take-add at count bytes))
     (ran_then Logs old now new (take at bytes) (take count (drop at bytes)) first second)
 
+next_erased : (old now new : ParserValue Logged) (bytes : List ℕ) (at count : ℕ) → Ran Logs old (take at bytes) now
+    → CountsErasures old.scanner (take at bytes) old.erasures now.erasures
+    → CountsErasures now.scanner (take count (drop at bytes)) now.erasures new.erasures
+    → CountsErasures old.scanner (take (at + count) bytes) old.erasures new.erasures
+next_erased old now new bytes at count ran first second =
+    counts_on old.scanner now.scanner bytes at count old.erasures now.erasures new.erasures
+    (λ s stands. (ran s stands).0) first second
+
 pub quiet_more : (mark : Mark) (old now new : ParserValue Logged) (bytes : List ℕ) (at count status : ℕ)
     → HasReadQuietly mark old bytes at now → ReadsUnit now (drop at bytes) count status new
     → status ≡ ok → is_quiet mark new.callbacks ≡ true → HasReadQuietly mark old bytes (at + count) new
@@ -147,6 +185,7 @@ quiet_more mark old now new bytes at count status read unit well quiet =
     let good : old.is_failed ≡ false = sym read.still ∙ (unit.works well).0 in
     record {
       ran = next_ran old now new bytes at count read.ran (unit.ran well);
+      erased = next_erased old now new bytes at count read.ran read.erased (unit.erased well);
       quiet = quiet;
       still = (unit.works well).1 ∙ sym good;
       nothing = λ e. absurd (false≢true (sym good ∙ e));
@@ -229,6 +268,7 @@ event_left mark old now new bytes at count status read unit well event = elim (u
         status_is = refl;
         used_is = omega (arith, some.0);
         ran = next_ran old now new bytes at count read.ran (unit.ran well);
+        erased = next_erased old now new bytes at count read.ran read.erased (unit.erased well);
         sound = sym read.still ∙ (unit.works well).0;
         works = (unit.works well).1;
       }))
@@ -253,6 +293,20 @@ quiet_before mark old now new bytes at count read stopped s stands =
           (sym part.1) (stopped.refused (run s (take at bytes)).state reached.0));
     }
 
+-- A unit that isn't read counts no erasures, nor do the bytes before the one whose allocation fails.
+unread_erased : {mark : Mark} (has_failed : Bool) (old now new : ParserValue Logged) (bytes : List ℕ) (at count status : ℕ)
+    → now.is_failed ≡ has_failed → HasReadQuietly mark old bytes at now → ReadsUnit now (drop at bytes) count status new
+    → (status ≡ ok → ⊥) → CountsErasures old.scanner (take (at + count) bytes) old.erasures new.erasures
+unread_erased true old now new bytes at count status is read unit refused =
+    let none : count ≡ 0 = (unit.failed_before refused is).1 in
+    next_erased old now new bytes at count read.ran read.erased
+    (subst (λ (n : ℕ). CountsErasures now.scanner (take n (drop at bytes)) now.erasures new.erasures) (sym none)
+    (unit.erased_none refused))
+unread_erased false old now new bytes at count status is read unit refused =
+    next_erased old now new bytes at count read.ran read.erased
+    (λ s stands. unit.erased_none refused s stands
+    ∙ sym (ap (erasures_after now.erasures) ((unit.memory refused is).1.before s stands)))
+
 pub left_unread : (mark : Mark) (old now new : ParserValue Logged) (bytes : List ℕ) (at count status : ℕ)
     → HasReadQuietly mark old bytes at now → at < length bytes
     → ReadsUnit now (drop at bytes) count status new → (status ≡ ok → ⊥)
@@ -266,6 +320,7 @@ left_unread mark old now new bytes at count status read inside unit refused = in
       let none = unit.failed_before refused (read.still ∙ e) in
       let first = read.nothing e in
       (none.0, omega (arith, none.1, first.0), none.2 ∙ first.1);
+  erased = unread_erased now.is_failed old now new bytes at count status refl read unit refused;
   fails = unit.fails refused;
 }))
 
@@ -275,6 +330,8 @@ all_quiet mark old now bytes read = inl (record {
   status_is = refl;
   used_is = refl;
   ran = subst (λ (all : List ℕ). Ran Logs old all now) (take-length bytes) read.ran;
+  erased =
+      subst (λ (all : List ℕ). CountsErasures old.scanner all old.erasures now.erasures) (take-length bytes) read.erased;
   quiet = read.quiet;
   still = read.still;
   nothing = read.nothing;

@@ -6,5 +6,7 @@ pub mod Logging
 pub mod RowPlaces
 pub mod Scrolling
 pub mod Answering
+pub mod Gathering
 pub mod Refused
 pub mod Walking
+pub mod Translated

@@ -10,7 +10,7 @@ use Rattle.vt100_c.specs.Records.{Logged}
 use Rattle.vt100_c.specs.Status.{ok, bad_argument, no_object, wrong_kind}
 use Rattle.vt100_c.specs.declared.object.Object.{Object}
 use Rattle.vt100_c.specs.declared.object.Source.{Source}
-use Rattle.vt100_c.specs.declared.object.Source.TheVariants.{Parser, Screen, Mirror, Capture}
+use Rattle.vt100_c.specs.declared.object.Source.TheVariants.{Parser, Screen, Mirror, Capture, Charsets}
 
 -- The state of the capture that a value contains, if any.
 abbrev pub state_in : Source → Option Written
@@ -18,6 +18,7 @@ state_in (Parser parser) = None
 state_in (Screen screen) = None
 state_in (Mirror mirror) = None
 state_in (Capture written) = Some written
+state_in (Charsets charsets) = None
 
 -- ---- a value with a capture
 

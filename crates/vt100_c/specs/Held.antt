@@ -10,7 +10,7 @@ use base.Fml.{Fml, feq}
 use denote.RawPtr.{Ptr, null_ptr}
 use mir.Syntax.{Ty}
 use Rattle.vt100_c.specs.declared.object.Source.{Source}
-use Rattle.vt100_c.specs.declared.object.Source.TheVariants.{Parser, Screen, Mirror, Capture}
+use Rattle.vt100_c.specs.declared.object.Source.TheVariants.{Parser, Screen, Mirror, Capture, Charsets}
 use Rattle.vt_mirror.specs.Mirror.{MirrorValue}
 use Rattle.vt_screen.specs.Screen.{ScreenValue}
 
@@ -32,6 +32,7 @@ screen_in (Parser parser) = Some parser.screen
 screen_in (Screen screen) = Some screen
 screen_in (Mirror mirror) = None
 screen_in (Capture written) = None
+screen_in (Charsets charsets) = None
 
 -- The mirror that a value contains, if any.
 abbrev pub mirror_in : Source → Option MirrorValue
@@ -39,6 +40,7 @@ mirror_in (Parser parser) = None
 mirror_in (Screen screen) = None
 mirror_in (Mirror mirror) = Some mirror
 mirror_in (Capture written) = None
+mirror_in (Charsets charsets) = None
 
 -- The number that represents a value's kind in the C interface.
 abbrev pub kind_of : Source → ℕ
@@ -46,6 +48,7 @@ kind_of (Parser parser) = 1
 kind_of (Screen screen) = 2
 kind_of (Mirror mirror) = 3
 kind_of (Capture written) = 4
+kind_of (Charsets charsets) = 5
 
 -- The number that represents the kind of a handle's value in the C interface; 0 if the handle is empty.
 abbrev pub kind_held : Option Object → ℕ

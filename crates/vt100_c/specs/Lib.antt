@@ -4,6 +4,7 @@ pub mod Held
 pub mod Calls
 pub mod Life
 pub mod Reading
+pub mod Gathering
 pub mod Due
 pub mod Shown
 pub mod Texts
@@ -11,5 +12,7 @@ pub mod Log
 pub mod Walking
 pub mod Capturing
 pub mod Rows
+pub mod KeptRows
 pub mod Viewing
 pub mod Sizes
+pub mod Translating

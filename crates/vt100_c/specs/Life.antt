@@ -7,7 +7,7 @@ use Rattle.vt100_c.specs.Held.{screen_in}
 use Rattle.vt100_c.specs.Status.{ok, out_of_memory, bad_argument, wrong_kind, no_object, in_use}
 use Rattle.vt100_c.specs.declared.object.Object.{Object}
 use Rattle.vt100_c.specs.declared.object.Source.{Source}
-use Rattle.vt100_c.specs.declared.object.Source.TheVariants.{Parser, Screen, Mirror, Capture}
+use Rattle.vt100_c.specs.declared.object.Source.TheVariants.{Parser, Screen, Mirror, Capture, Charsets}
 use Rattle.vt_grid.specs.Page.{SameSize}
 use Rattle.vt_scan.specs.Automaton.{start}
 use Rattle.vt_scan.specs.Scanner.{StandsFor}
@@ -23,6 +23,7 @@ IsNewParser rows cols capacity wanted (Parser parser) =
 IsNewParser rows cols capacity wanted (Screen screen) = ⊥
 IsNewParser rows cols capacity wanted (Mirror mirror) = ⊥
 IsNewParser rows cols capacity wanted (Capture written) = ⊥
+IsNewParser rows cols capacity wanted (Charsets charsets) = ⊥
 
 -- A value that satisfies `Is` is created in an empty handle, unless an allocation fails. The handle is unchanged if it
 -- already holds an object (status `in_use`) or if `rows` or `cols` is 0 (status `bad_argument`).
@@ -31,13 +32,14 @@ Makes rows cols Is (Some old) status new = (status ≡ in_use) × (new ≡ Some 
 Makes rows cols Is None status new =
     Either (is_size rows cols) (Fills Is status new) ((status ≡ bad_argument) × (new ≡ None))
 
--- The copy that saving a value creates: the screen of a parser or saved screen, or a copy of a capture. A mirror cannot
--- be saved.
+-- The copy that saving a value creates: the screen of a parser or saved screen, or a copy of a capture. A mirror or a
+-- translator cannot be saved.
 abbrev pub saved_from : Source → Option Source
 saved_from (Parser parser) = Some (Screen parser.screen)
 saved_from (Screen screen) = Some (Screen screen)
 saved_from (Mirror mirror) = None
 saved_from (Capture written) = Some (Capture written)
+saved_from (Charsets charsets) = None
 
 -- The effect of storing a copy, if there is one, in an empty handle: the handle holds the copy, or an allocation fails
 -- and the handle stays empty. If there is no copy, the handle stays empty, and the status is `wrong_kind`.
@@ -72,6 +74,7 @@ IsShownCopy screen (Parser parser) = ⊥
 IsShownCopy screen (Screen copy) = CopiesShown screen copy
 IsShownCopy screen (Mirror mirror) = ⊥
 IsShownCopy screen (Capture written) = ⊥
+IsShownCopy screen (Charsets charsets) = ⊥
 
 -- A copy of what the screen displays is stored in an empty handle, unless an allocation fails. If there is no screen,
 -- the handle stays empty, and the status is `wrong_kind`.
@@ -98,6 +101,7 @@ with_other other (Parser parser) = Parser (record parser { screen = unwrap_or ot
 with_other other (Screen screen) = Screen (unwrap_or other screen)
 with_other other (Mirror mirror) = Mirror mirror
 with_other other (Capture written) = Capture written
+with_other other (Charsets charsets) = Charsets charsets
 
 -- The status of swapping two screens: `ok` if both screens exist, otherwise `wrong_kind`.
 abbrev pub swap_status : Option ScreenValue → Option ScreenValue → ℕ

@@ -4,13 +4,14 @@ use Rattle.vt100_c.specs.Due.{due_to}
 use Rattle.vt100_c.specs.Records.{Logged, bit_of, log_after_clear, nothing_logged}
 use Rattle.vt100_c.specs.declared.object.Object.{Object}
 use Rattle.vt100_c.specs.declared.object.Source.{Source}
-use Rattle.vt100_c.specs.declared.object.Source.TheVariants.{Parser, Screen, Mirror, Capture}
+use Rattle.vt100_c.specs.declared.object.Source.TheVariants.{Parser, Screen, Mirror, Capture, Charsets}
 
 abbrev pub log_in : Source → Option Logged
 log_in (Parser parser) = Some parser.callbacks
 log_in (Screen screen) = None
 log_in (Mirror mirror) = None
 log_in (Capture written) = None
+log_in (Charsets charsets) = None
 
 abbrev pub log_at : Option Object → Option Logged
 log_at None = None
@@ -32,6 +33,7 @@ with_emptied (Parser parser) = Parser (record parser { callbacks = log_after_cle
 with_emptied (Screen screen) = Screen screen
 with_emptied (Mirror mirror) = Mirror mirror
 with_emptied (Capture written) = Capture written
+with_emptied (Charsets charsets) = Charsets charsets
 
 abbrev pub Empties : Source → ℕ → Source → Type 0
 Empties old status new = (status ≡ due_to (log_in old)) × (new ≡ with_emptied old)
@@ -43,6 +45,7 @@ with_limit bytes (Parser parser) =
 with_limit bytes (Screen screen) = Screen screen
 with_limit bytes (Mirror mirror) = Mirror mirror
 with_limit bytes (Capture written) = Capture written
+with_limit bytes (Charsets charsets) = Charsets charsets
 
 abbrev pub Limits : (bytes : ℕ) → Source → ℕ → Source → Type 0
 Limits bytes old status new = (status ≡ due_to (log_in old)) × (new ≡ with_limit bytes old)

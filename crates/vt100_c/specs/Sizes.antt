@@ -15,7 +15,7 @@ use Rattle.vt100_c.specs.Calls.{Either, Refuses, is_size}
 use Rattle.vt100_c.specs.Records.{Logged, Logs}
 use Rattle.vt100_c.specs.Status.{bad_argument, ok, wrong_kind, status_of_result}
 use Rattle.vt100_c.specs.declared.object.Source.{Source}
-use Rattle.vt100_c.specs.declared.object.Source.TheVariants.{Parser, Screen, Mirror, Capture}
+use Rattle.vt100_c.specs.declared.object.Source.TheVariants.{Parser, Screen, Mirror, Capture, Charsets}
 
 -- The condition that holds after a call: `Done` if the call succeeded (status 0), or `Refused` if an allocation failed
 -- (status 1). No other status is possible.
@@ -44,12 +44,13 @@ pub record ResizesMirror (rows cols : ℕ) (old : MirrorValue) (status : ℕ) (n
   pub call : Resizes old rows cols answer new
   pub status_is : status ≡ status_of_result answer
 
--- A parser, a saved screen or a mirror is resized; for a capture, the status is `wrong_kind`.
+-- A parser, a saved screen or a mirror is resized; for any other kind of value, the status is `wrong_kind`.
 abbrev pub ResizesSource : (rows cols : ℕ) → Source → ℕ → Source → Type 0
 ResizesSource rows cols (Parser old) status (Parser new) = ResizesParser rows cols old status new
 ResizesSource rows cols (Screen old) status (Screen new) = ResizesScreen rows cols old status new
 ResizesSource rows cols (Mirror old) status (Mirror new) = ResizesMirror rows cols old status new
 ResizesSource rows cols (Capture old) status new = Refuses wrong_kind (Capture old) status new
+ResizesSource rows cols (Charsets old) status new = Refuses wrong_kind (Charsets old) status new
 ResizesSource rows cols old status new = ⊥
 
 -- A value is resized; for 0 rows or 0 columns, the status is `bad_argument`.
@@ -67,6 +68,7 @@ ChangesScreen Does (Parser old) status (Parser new) =
 ChangesScreen Does (Screen old) status (Screen new) = Does old status new
 ChangesScreen Does (Mirror old) status new = Refuses wrong_kind (Mirror old) status new
 ChangesScreen Does (Capture old) status new = Refuses wrong_kind (Capture old) status new
+ChangesScreen Does (Charsets old) status new = Refuses wrong_kind (Charsets old) status new
 ChangesScreen Does old status new = ⊥
 
 abbrev pub SetsScreenSize : (rows cols : ℕ) → Source → ℕ → Source → Type 0

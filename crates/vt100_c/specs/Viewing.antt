@@ -17,7 +17,7 @@ use Rattle.vt100_c.specs.Calls.{Refuses}
 use Rattle.vt100_c.specs.Shown.{bit}
 use Rattle.vt100_c.specs.declared.object.Object.{Object}
 use Rattle.vt100_c.specs.declared.object.Source.{Source}
-use Rattle.vt100_c.specs.declared.object.Source.TheVariants.{Parser, Screen, Mirror, Capture}
+use Rattle.vt100_c.specs.declared.object.Source.TheVariants.{Parser, Screen, Mirror, Capture, Charsets}
 
 -- ---- joining and leaving
 
@@ -95,6 +95,7 @@ IsNewMirror rows cols capacity (Mirror mirror) =
 IsNewMirror rows cols capacity (Parser parser) = ⊥
 IsNewMirror rows cols capacity (Screen screen) = ⊥
 IsNewMirror rows cols capacity (Capture written) = ⊥
+IsNewMirror rows cols capacity (Charsets charsets) = ⊥
 
 -- A viewer joins the mirror that a value contains; if the value contains no mirror, the status is `wrong_kind`.
 abbrev pub JoinsSource : (before after : ℕ) → Source → ℕ → Source → Type 0
@@ -102,9 +103,11 @@ JoinsSource before after (Mirror old) status (Mirror new) = Joins status before 
 JoinsSource before after (Mirror old) status (Parser new) = ⊥
 JoinsSource before after (Mirror old) status (Screen new) = ⊥
 JoinsSource before after (Mirror old) status (Capture new) = ⊥
+JoinsSource before after (Mirror old) status (Charsets new) = ⊥
 JoinsSource before after (Parser old) status new = Refuses wrong_kind (Parser old) status new
 JoinsSource before after (Screen old) status new = Refuses wrong_kind (Screen old) status new
 JoinsSource before after (Capture old) status new = Refuses wrong_kind (Capture old) status new
+JoinsSource before after (Charsets old) status new = Refuses wrong_kind (Charsets old) status new
 
 -- The viewer with the number `viewer` leaves the mirror that a value contains; if the value is not a mirror, the status
 -- is `wrong_kind`.
@@ -113,9 +116,11 @@ LeavesSource viewer (Mirror old) status (Mirror new) = LeavesIt viewer status ol
 LeavesSource viewer (Mirror old) status (Parser new) = ⊥
 LeavesSource viewer (Mirror old) status (Screen new) = ⊥
 LeavesSource viewer (Mirror old) status (Capture new) = ⊥
+LeavesSource viewer (Mirror old) status (Charsets new) = ⊥
 LeavesSource viewer (Parser old) status new = Refuses wrong_kind (Parser old) status new
 LeavesSource viewer (Screen old) status new = Refuses wrong_kind (Screen old) status new
 LeavesSource viewer (Capture old) status new = Refuses wrong_kind (Capture old) status new
+LeavesSource viewer (Charsets old) status new = Refuses wrong_kind (Charsets old) status new
 
 -- A viewer of the mirror that a value contains gets an update, and the stored text is replaced; if the value is not a
 -- mirror, the status is `wrong_kind`.
@@ -126,12 +131,15 @@ UpdatesSource options viewer before after text text' (Mirror old) status (Mirror
 UpdatesSource options viewer before after text text' (Mirror old) status (Parser new) = ⊥
 UpdatesSource options viewer before after text text' (Mirror old) status (Screen new) = ⊥
 UpdatesSource options viewer before after text text' (Mirror old) status (Capture new) = ⊥
+UpdatesSource options viewer before after text text' (Mirror old) status (Charsets new) = ⊥
 UpdatesSource options viewer before after text text' (Parser old) status new =
     Refuses wrong_kind (Parser old) status new × (text' ≡ text) × (after ≡ before)
 UpdatesSource options viewer before after text text' (Screen old) status new =
     Refuses wrong_kind (Screen old) status new × (text' ≡ text) × (after ≡ before)
 UpdatesSource options viewer before after text text' (Capture old) status new =
     Refuses wrong_kind (Capture old) status new × (text' ≡ text) × (after ≡ before)
+UpdatesSource options viewer before after text text' (Charsets old) status new =
+    Refuses wrong_kind (Charsets old) status new × (text' ≡ text) × (after ≡ before)
 
 abbrev pub UpdatesObject : DiffOptions → (viewer : ℕ) → (before after : UpdateNumbers) → Object → ℕ → Object → Type 0
 UpdatesObject options viewer before after old status new =

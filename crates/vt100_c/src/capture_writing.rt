@@ -138,6 +138,7 @@ fn screen_text(alloc: Global, screen: &Screen, capture: &mut Source) -> Result<S
         Source::Parser(_) => Err(WRONG_KIND),
         Source::Screen(_) => Err(WRONG_KIND),
         Source::Mirror(_) => Err(WRONG_KIND),
+        Source::Charsets(_) => Err(WRONG_KIND),
     }
 }
 
@@ -270,6 +271,7 @@ fn reported_text(
         Source::Parser(_) => Err(WRONG_KIND),
         Source::Screen(_) => Err(WRONG_KIND),
         Source::Mirror(_) => Err(WRONG_KIND),
+        Source::Charsets(_) => Err(WRONG_KIND),
     }
 }
 

@@ -101,6 +101,13 @@ impl Events {
         self.room
     }
 
+    /// Returns the size limit of the log in bytes.
+    pub(crate) fn limit(&self) -> usize
+        ensures { result ≡ self.now.limit }
+    {
+        self.limit
+    }
+
     /// Returns the reported row at `index`, counted from 0, or `None` if there
     /// is no such row.
     #[tactic(auto, using(crate::proofs::Logging::first_sound))]

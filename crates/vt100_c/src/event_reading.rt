@@ -116,6 +116,7 @@ pub(crate) fn log_of(source: &Source) -> Option<&Events>
         Source::Screen(_) => None,
         Source::Mirror(_) => None,
         Source::Capture(_) => None,
+        Source::Charsets(_) => None,
     }
 }
 
@@ -164,6 +165,7 @@ fn clear(source: &mut Source) -> u8
         Source::Screen(_) => WRONG_KIND,
         Source::Mirror(_) => WRONG_KIND,
         Source::Capture(_) => WRONG_KIND,
+        Source::Charsets(_) => WRONG_KIND,
     }
 }
 
@@ -180,6 +182,7 @@ fn set_limit(source: &mut Source, bytes: usize) -> u8
         Source::Screen(_) => WRONG_KIND,
         Source::Mirror(_) => WRONG_KIND,
         Source::Capture(_) => WRONG_KIND,
+        Source::Charsets(_) => WRONG_KIND,
     }
 }
 

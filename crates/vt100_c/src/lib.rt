@@ -5,13 +5,17 @@
 mod capture_reading;
 mod capture_writing;
 mod cells;
+mod charsets;
 mod convert;
 mod copying;
 mod differences;
 mod displayed;
+mod erasures;
 mod event_log;
 mod event_reading;
+mod ground;
 mod handle;
+mod kept_rows;
 pub mod laws;
 mod lifecycle;
 mod mirrors;

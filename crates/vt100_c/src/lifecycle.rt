@@ -56,8 +56,8 @@ pub extern "C" fn vt100_parser_new(
 /// # Errors
 ///
 /// Returns `NO_OBJECT` if `handle` is empty, `IN_USE` if `out` is not empty,
-/// `WRONG_KIND` if `handle` holds a mirror, or `OUT_OF_MEMORY` if the copy
-/// cannot be allocated. On error, nothing is changed.
+/// `WRONG_KIND` if `handle` holds a mirror or a translator, or `OUT_OF_MEMORY` if
+/// the copy cannot be allocated. On error, nothing is changed.
 #[unsafe(no_mangle)]
 pub extern "C" fn vt100_save(alloc: Global, handle: &mut Handle, out: &mut Handle) -> u8
     ensures same { handle.new.held ≡ handle.old.held }
@@ -147,7 +147,8 @@ pub extern "C" fn vt100_free(alloc: Global, handle: &mut Handle)
 }
 
 /// Returns the kind of the object that a handle holds: 1 for a parser, 2 for a saved screen, 3 for
-/// a mirror, and 4 for a capture. Returns 0 if the handle is empty.
+/// a mirror, 4 for a capture, and 5 for a translator of character sets. Returns 0 if the handle is
+/// empty.
 #[unsafe(no_mangle)]
 pub extern "C" fn vt100_kind(alloc: Global, handle: &mut Handle) -> u8
     ensures same { handle.new.held ≡ handle.old.held }
@@ -200,7 +201,8 @@ pub(crate) fn hold(alloc: Global, source: Source, out: &mut Handle) -> u8
 ///
 /// # Errors
 ///
-/// Returns `WRONG_KIND` if the source is a mirror, or `OUT_OF_MEMORY` if an allocation fails.
+/// Returns `WRONG_KIND` if the source is a mirror or a translator, or `OUT_OF_MEMORY` if an
+/// allocation fails.
 fn copy_of(source: &Source) -> Result<Source, u8>
     ensures ok { IfOk result (λ copy. saved_from source.now ≡ Some copy) }
     ensures err { IfErr result (λ status. status ≡ refusal_of (saved_from source.now)) }
@@ -209,6 +211,7 @@ fn copy_of(source: &Source) -> Result<Source, u8>
         Source::Parser(parser) => saved(parser.screen()),
         Source::Screen(screen) => saved(screen),
         Source::Mirror(_) => Err(WRONG_KIND),
+        Source::Charsets(_) => Err(WRONG_KIND),
         Source::Capture(state) => match state.clone() {
             Ok(copy) => Ok(Source::Capture(copy)),
             Err(_) => Err(OUT_OF_MEMORY),
@@ -263,6 +266,7 @@ fn swap(first: &mut Source, second: &mut Source) -> u8
         Source::Screen(screen) => swap_with(screen, second),
         Source::Mirror(_) => WRONG_KIND,
         Source::Capture(_) => WRONG_KIND,
+        Source::Charsets(_) => WRONG_KIND,
     }
 }
 
@@ -284,5 +288,6 @@ fn swap_with(screen: &mut Screen, source: &mut Source) -> u8
         }
         Source::Mirror(_) => WRONG_KIND,
         Source::Capture(_) => WRONG_KIND,
+        Source::Charsets(_) => WRONG_KIND,
     }
 }

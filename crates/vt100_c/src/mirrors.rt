@@ -223,6 +223,7 @@ fn join(source: &mut Source, viewer: &mut u64) -> u8
         Source::Parser(_) => WRONG_KIND,
         Source::Screen(_) => WRONG_KIND,
         Source::Capture(_) => WRONG_KIND,
+        Source::Charsets(_) => WRONG_KIND,
     }
 }
 
@@ -236,6 +237,7 @@ fn leave(source: &mut Source, viewer: u64) -> u8
         Source::Parser(_) => WRONG_KIND,
         Source::Screen(_) => WRONG_KIND,
         Source::Capture(_) => WRONG_KIND,
+        Source::Charsets(_) => WRONG_KIND,
     }
 }
 
@@ -254,6 +256,7 @@ fn update(object: &mut Object, viewer: u64, rows: &mut u16, cols: &mut u16, len:
         Source::Parser(_) => WRONG_KIND,
         Source::Screen(_) => WRONG_KIND,
         Source::Capture(_) => WRONG_KIND,
+        Source::Charsets(_) => WRONG_KIND,
     }
 }
 
@@ -279,6 +282,7 @@ fn update_scrolling(
         Source::Parser(_) => WRONG_KIND,
         Source::Screen(_) => WRONG_KIND,
         Source::Capture(_) => WRONG_KIND,
+        Source::Charsets(_) => WRONG_KIND,
     }
 }
 
@@ -305,6 +309,7 @@ fn update_with(
         Source::Parser(_) => WRONG_KIND,
         Source::Screen(_) => WRONG_KIND,
         Source::Capture(_) => WRONG_KIND,
+        Source::Charsets(_) => WRONG_KIND,
     }
 }
 
@@ -318,6 +323,7 @@ fn mirror_of(source: &Source) -> Option<&Mirror>
         Source::Parser(_) => None,
         Source::Screen(_) => None,
         Source::Capture(_) => None,
+        Source::Charsets(_) => None,
     }
 }
 

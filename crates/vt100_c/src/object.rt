@@ -4,11 +4,13 @@ ghost use Rattle.std.specs.Prelude.{◌≡◌, IfSome, Some, None};
 ghost use Rattle.vt100_c.specs.Held.{kind_of, screen_in};
 
 use crate::event_log::Events;
+use vt_charsets::Charsets;
 use vt_mirror::Mirror;
 use vt100::capture::BasicFormattedCaptureState;
 use vt100::{Parser, Screen};
 
-/// The value of the object that a handle holds: a parser, a saved screen, a mirror or a capture.
+/// The value of the object that a handle holds: a parser, a saved screen, a mirror, a capture or a
+/// translator.
 #[derive(Drop)]
 pub enum Source {
     /// A parser, with its screen and its log of events.
@@ -22,6 +24,9 @@ pub enum Source {
 
     /// The state of a capture.
     Capture(BasicFormattedCaptureState),
+
+    /// A translator of character sets.
+    Charsets(Charsets),
 }
 
 /// An object that a handle holds: a value, and the text that was last generated
@@ -45,11 +50,12 @@ pub(crate) fn screen_of(source: &Source) -> Option<&Screen>
         Source::Screen(screen) => Some(screen),
         Source::Mirror(_) => None,
         Source::Capture(_) => None,
+        Source::Charsets(_) => None,
     }
 }
 
-/// Returns the kind of a source: 1 for a parser, 2 for a saved screen, 3 for a mirror, and 4 for a
-/// capture.
+/// Returns the kind of a source: 1 for a parser, 2 for a saved screen, 3 for a mirror, 4 for a
+/// capture, and 5 for a translator of character sets.
 pub(crate) fn kind_of(source: &Source) -> u8
     ensures { result ≡ kind_of source.now }
 {
@@ -58,5 +64,6 @@ pub(crate) fn kind_of(source: &Source) -> u8
         Source::Screen(_) => 2,
         Source::Mirror(_) => 3,
         Source::Capture(_) => 4,
+        Source::Charsets(_) => 5,
     }
 }

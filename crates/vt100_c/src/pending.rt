@@ -37,7 +37,7 @@ pub extern "C" fn vt100_pending_len(alloc: Global, handle: &mut Handle, len: &mu
 }
 
 /// Returns the parser if the source is one, otherwise `None`.
-fn parser_of(source: &Source) -> Option<&Parser<Events>>
+pub(crate) fn parser_of(source: &Source) -> Option<&Parser<Events>>
     ensures some { IfSome result (λ parser. parser_in source.now ≡ Some parser.now) }
     ensures none { result ≡ None → parser_in source.now ≡ None }
 {
@@ -46,6 +46,7 @@ fn parser_of(source: &Source) -> Option<&Parser<Events>>
         Source::Screen(_) => None,
         Source::Mirror(_) => None,
         Source::Capture(_) => None,
+        Source::Charsets(_) => None,
     }
 }
 

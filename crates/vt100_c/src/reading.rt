@@ -1,9 +1,9 @@
 //! Parsing bytes with parsers and mirrors.
 
-ghost use Rattle.std.specs.Prelude.{◌≡◌, ◌<◌, None, length, true};
+ghost use Rattle.std.specs.Prelude.{◌≡◌, ◌<◌, None, false, length, true};
 ghost use Rattle.vt100_c.specs.Calls.{OnSource};
 ghost use Rattle.vt100_c.specs.Reading.{Reads, ReadsMirror, ReadsParser, ReadsUntil, ReadsUntilEvent};
-ghost use Rattle.vt100_c.specs.Reading.{ReadsFrom, ReadsUnit, are_bare_rows, is_quiet, mark_of};
+ghost use Rattle.vt100_c.specs.Reading.{ReadsFrom, ReadsUnit, are_bare_rows, has_bare_rows, has_space, is_quiet, mark_of};
 
 use crate::event_log::Events;
 use crate::handle::Handle;
@@ -39,7 +39,9 @@ pub extern "C" fn vt100_process(alloc: Global, handle: &mut Handle, bytes: &[u8]
 }
 
 /// Parses bytes with a parser, up to and including the first byte that causes an event to be
-/// recorded or lost. Stores the number of bytes parsed in `used`.
+/// recorded, or the first event since the log was cleared to be lost. Stores the number of bytes
+/// parsed in `used`. If a record was lost before the call, nothing is recorded, and all bytes are
+/// parsed.
 ///
 /// Rows that are recorded without their text do not stop parsing until the rows recorded by this
 /// call take 64 KiB or the log reaches its limit.
@@ -58,14 +60,46 @@ pub extern "C" fn vt100_process_until(
     used: &mut usize,
 ) -> u8
     ensures none { handle.old.held ≡ None → used.new ≡ 0 }
-    ensures call { OnSource (ReadsUntilEvent bytes.now used.new) handle.old.held result handle.new.held }
+    ensures call { OnSource (ReadsUntilEvent false bytes.now used.new) handle.old.held result handle.new.held }
 {
     if !handle.is_full() {
         *used = 0;
         return NO_OBJECT;
     }
     let mut object = handle.take_out(alloc);
-    let (status, count) = process_until(&mut object.source, bytes);
+    let (status, count) = process_until(&mut object.source, bytes, false);
+    handle.put_back(object);
+    *used = count;
+    status
+}
+
+/// Parses bytes with a parser, and lets events gather in the log. Stops after the first byte whose
+/// events leave at most half of the log's limit, or that causes the first event since the log was
+/// cleared to be lost, and otherwise at the end. Stores the number of bytes parsed in `used`.
+///
+/// If at most half of the limit is left before the call, parsing stops after the first byte that
+/// causes an event to be recorded. If a record was lost before the call, nothing is recorded, and
+/// all bytes are parsed.
+///
+/// # Errors
+///
+/// Returns the status codes of [`vt100_process_until`], and stores the same in `used`.
+#[unsafe(no_mangle)]
+pub extern "C" fn vt100_process_until_full(
+    alloc: Global,
+    handle: &mut Handle,
+    bytes: &[u8],
+    used: &mut usize,
+) -> u8
+    ensures none { handle.old.held ≡ None → used.new ≡ 0 }
+    ensures call { OnSource (ReadsUntilEvent true bytes.now used.new) handle.old.held result handle.new.held }
+{
+    if !handle.is_full() {
+        *used = 0;
+        return NO_OBJECT;
+    }
+    let mut object = handle.take_out(alloc);
+    let (status, count) = process_until(&mut object.source, bytes, true);
     handle.put_back(object);
     *used = count;
     status
@@ -81,6 +115,7 @@ fn process(source: &mut Source, bytes: &[u8]) -> u8
         Source::Screen(_) => WRONG_KIND,
         Source::Mirror(mirror) => read_mirror(mirror, bytes),
         Source::Capture(_) => WRONG_KIND,
+        Source::Charsets(_) => WRONG_KIND,
     }
 }
 
@@ -98,21 +133,22 @@ fn read_mirror(mirror: &mut Mirror, bytes: &[u8]) -> u8
     answered(mirror.process(bytes))
 }
 
-/// Parses bytes until an event, as [`vt100_process_until`] does. Returns the
-/// status code and the number of bytes parsed. The status code is `WRONG_KIND`
-/// if the source is not a parser.
-fn process_until(source: &mut Source, bytes: &[u8]) -> (u8, usize)
-    ensures { ReadsUntilEvent bytes.now result.1 source.old result.0 source.new }
+/// Parses bytes until an event, as [`vt100_process_until`] does, or until events have gathered in
+/// the log, as [`vt100_process_until_full`] does. Returns the status code and the number of bytes
+/// parsed. The status code is `WRONG_KIND` if the source is not a parser.
+fn process_until(source: &mut Source, bytes: &[u8], gathers: bool) -> (u8, usize)
+    ensures { ReadsUntilEvent gathers bytes.now result.1 source.old result.0 source.new }
 {
     match source {
-        Source::Parser(parser) => read_until(parser, bytes),
+        Source::Parser(parser) => read_until(parser, bytes, gathers),
         Source::Screen(_) => (WRONG_KIND, 0),
         Source::Mirror(_) => (WRONG_KIND, 0),
         Source::Capture(_) => (WRONG_KIND, 0),
+        Source::Charsets(_) => (WRONG_KIND, 0),
     }
 }
 
-/// The state of a log when parsing begins.
+/// The state of a log when parsing begins, and whether events gather in it.
 #[derive(Clone, Copy)]
 pub struct Mark {
     /// The length of the records in bytes.
@@ -123,15 +159,19 @@ pub struct Mark {
     pub(crate) room: usize,
     /// Whether no record has been lost.
     pub(crate) is_whole: bool,
+    /// Whether events gather in the log until half of its limit is reached. Otherwise, each event
+    /// but a row without text stops parsing.
+    pub(crate) gathers: bool,
 }
 
-/// Parses bytes with a parser until an event, as [`vt100_process_until`] does.
-/// Returns the status code and the number of bytes parsed.
+/// Parses bytes with a parser until an event, as [`vt100_process_until`] does, or until events have
+/// gathered in the log, as [`vt100_process_until_full`] does. Returns the status code and the
+/// number of bytes parsed.
 #[tactic(auto, using(crate::proofs::Answering::quiet_now))]
-fn read_until(parser: &mut Parser<Events>, bytes: &[u8]) -> (u8, usize)
-    ensures { ReadsUntil bytes.now result.1 parser.old result.0 parser.new }
+fn read_until(parser: &mut Parser<Events>, bytes: &[u8], gathers: bool) -> (u8, usize)
+    ensures { ReadsUntil gathers bytes.now result.1 parser.old result.0 parser.new }
 {
-    let mark = mark_of(parser.callbacks());
+    let mark = mark_of(parser.callbacks(), gathers);
     read_from(parser, bytes, mark)
 }
 
@@ -167,24 +207,47 @@ fn read_unit(parser: &mut Parser<Events>, bytes: &[u8]) -> (u8, usize)
     (answered(answer), count)
 }
 
-/// Returns a mark of the current state of a log.
-fn mark_of(log: &Events) -> Mark
-    ensures { result ≡ mark_of log.now }
+/// Returns a mark of the current state of a log, in which events gather if `gathers` is true.
+fn mark_of(log: &Events, gathers: bool) -> Mark
+    ensures { result ≡ mark_of gathers log.now }
 {
     Mark {
         len: log.records().len(),
         rows: log.row_count(),
         room: log.room(),
         is_whole: log.is_whole(),
+        gathers,
     }
 }
 
-/// Returns whether parsing continues, which is the case if only rows without text were recorded
-/// since `mark`, these rows take less than [`BATCH`] bytes, and the log has neither reached its
-/// limit nor lost a record since then.
+/// Returns whether parsing continues: the log has space if events gather in it (see [`has_space`]),
+/// and otherwise has recorded no event but rows without text (see [`has_bare_rows`]).
 #[inline(always)]
 fn is_quiet(mark: Mark, log: &Events) -> bool
     ensures { result ≡ is_quiet mark log.now }
+{
+    if mark.gathers {
+        has_space(mark, log)
+    } else {
+        has_bare_rows(mark, log)
+    }
+}
+
+/// Returns whether more than half of the log's limit is left, or nothing was recorded since `mark`;
+/// and the log has not lost a record since then.
+#[inline(always)]
+fn has_space(mark: Mark, log: &Events) -> bool
+    ensures { result ≡ has_space mark log.now }
+{
+    (log.limit() / 2 < log.room() || log.records().len().saturating_sub(mark.len) == 0)
+        && (log.is_whole() || !mark.is_whole)
+}
+
+/// Returns whether only rows without text were recorded since `mark`, these rows take less than
+/// [`BATCH`] bytes, and the log has neither reached its limit nor lost a record since then.
+#[inline(always)]
+fn has_bare_rows(mark: Mark, log: &Events) -> bool
+    ensures { result ≡ has_bare_rows mark log.now }
 {
     let bytes = log.records().len().saturating_sub(mark.len);
     let rows = log.row_count().saturating_sub(mark.rows);

@@ -216,7 +216,7 @@ fn replace(place: &mut Row, row: &RowContents<'_>) -> Result<(), AllocError>
 /// # Errors
 ///
 /// Returns an error if an allocation fails.
-fn text_of(alloc: Global, row: &RowContents<'_>) -> Result<String, AllocError>
+pub(crate) fn text_of(alloc: Global, row: &RowContents<'_>) -> Result<String, AllocError>
     ensures { IfOk result
         (λ text. string_bytes text ≡ plain_text 0 (length row.now.cells) row.now.cells) }
 {

@@ -123,6 +123,7 @@ fn resize(source: &mut Source, rows: NonZeroU16, cols: NonZeroU16) -> u8
         Source::Screen(screen) => resize_screen(screen, rows, cols),
         Source::Mirror(mirror) => resize_mirror(mirror, rows, cols),
         Source::Capture(_) => WRONG_KIND,
+        Source::Charsets(_) => WRONG_KIND,
     }
 }
 
@@ -175,6 +176,7 @@ fn resize_own(source: &mut Source, rows: NonZeroU16, cols: NonZeroU16) -> u8
         Source::Screen(screen) => resize_screen(screen, rows, cols),
         Source::Mirror(_) => WRONG_KIND,
         Source::Capture(_) => WRONG_KIND,
+        Source::Charsets(_) => WRONG_KIND,
     }
 }
 
@@ -189,6 +191,7 @@ fn set_scrollback(source: &mut Source, rows: usize) -> u8
         Source::Screen(screen) => scroll_back(screen, rows),
         Source::Mirror(_) => WRONG_KIND,
         Source::Capture(_) => WRONG_KIND,
+        Source::Charsets(_) => WRONG_KIND,
     }
 }
 
@@ -213,6 +216,7 @@ fn clear_scrollback(source: &mut Source) -> u8
         Source::Screen(screen) => clear(screen),
         Source::Mirror(_) => WRONG_KIND,
         Source::Capture(_) => WRONG_KIND,
+        Source::Charsets(_) => WRONG_KIND,
     }
 }
 

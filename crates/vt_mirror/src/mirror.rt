@@ -1,6 +1,6 @@
 //! A terminal with viewers.
 
-ghost use Rattle.std.specs.Prelude.{◌≡◌, IfOk, IfSome, IsOk, IsTrue, None, OnErr, OnOk, Some, [], false, string_bytes, true, ℕ};
+ghost use Rattle.std.specs.Prelude.{◌≡◌, ◌↔◌, IfOk, IfSome, IsOk, IsTrue, None, OnErr, OnOk, Some, [], false, string_bytes, true, ℕ};
 ghost use Rattle.vt_cells.specs.Refusals.{OnlyOutOfMemory};
 ghost use Rattle.vt_grid.specs.Page.{SameSize};
 ghost use Rattle.vt_mirror.specs.Calls.{Asks, IsDiffFor, IsFullUpdate, IsPortableUpdate, IsUpdate, JoinsMirror, Leaves};
@@ -9,7 +9,7 @@ ghost use Rattle.vt_mirror.specs.Mirror.{Puts, PutsAmong, ShowsFreshScreen, is_c
 ghost use Rattle.vt_mirror.specs.Kept.{IsRedraw};
 ghost use Rattle.vt_redraw.specs.Steady.{IsSteady};
 ghost use Rattle.vt_redraw.specs.declared.form.Form.{Form};
-ghost use Rattle.vt_scan.specs.Automaton.{start};
+ghost use Rattle.vt_scan.specs.Automaton.{State, start};
 ghost use Rattle.vt_scan.specs.Scanner.{StandsFor};
 ghost use Rattle.vt_screen.specs.Screen.{IsColored, IsScreen};
 ghost use Rattle.vt_screen.specs.Shown.{display, form_of};
@@ -122,6 +122,16 @@ impl Mirror {
         self.parser.screen().size();
         self.viewers.discard_current();
         self.parser.process(bytes)
+    }
+
+    /// Returns whether the mirror is in ground state: no escape sequence, control string or
+    /// character is half read (see `Parser::is_ground`).
+    pub fn is_ground(&self) -> bool
+        ensures start { IsTrue result ↔ StandsFor self.now.parser.scanner start }
+        ensures state { (state : State) → StandsFor self.now.parser.scanner state
+            → IsTrue result ↔ (state ≡ start) }
+    {
+        self.parser.is_ground()
     }
 
     /// Resizes the screen, as `Parser::set_size` does. After a resize, the next update of every

@@ -1,10 +1,12 @@
 //! The screen of a terminal.
 
 ghost use Rattle.std.specs.Prelude.{◌≡◌, ◌<◌, ◌↔◌, IfOk, IfSome, IsSome, None, false, length, true};
+ghost use Rattle.std.specs.List.{slice_get};
 ghost use Rattle.vt_cells.specs.Attrs.{is_bold, is_dim};
 ghost use Rattle.vt_cells.specs.Refusals.{OnlyOutOfMemory};
 ghost use Rattle.vt_grid.specs.Page.{SameSize};
 ghost use Rattle.vt_rows.specs.Cells.{at};
+ghost use Rattle.vt_screen.specs.Capture.{all_rows};
 ghost use Rattle.vt_screen.specs.Screen.{IsColored, IsScreen, fresh_screen, visible_row};
 
 mod capture;
@@ -226,6 +228,19 @@ impl Screen {
         ensures past { result ≡ None → (visible_row self.now row).wrapped ≡ false }
     {
         self.scrollback.visible_row(self.grid.rows(), row)
+    }
+
+    /// Returns the row at `index` among all rows that are kept, whether they are displayed or not:
+    /// the rows of scrollback, oldest first, followed by the rows of the page. Returns `None` if
+    /// there is no such row. Rows of scrollback have their own widths, without the blanks at their
+    /// ends. The display is not scrolled, and its rows are not extended.
+    pub fn kept_row(&self, index: usize) -> Option<RowContents<'_>>
+        ensures { result ≡ slice_get (all_rows self.now) index }
+    {
+        if index >= self.scrollback.stacked_len(self.grid.rows()) {
+            return None;
+        }
+        Some(self.scrollback.stacked_row(self.grid.rows(), index))
     }
 
     /// Returns the cursor's zero-based row and column. If the column equals the

@@ -3,7 +3,6 @@ import { readFile } from "node:fs/promises";
 import { afterEach, test } from "node:test";
 import { Cast } from "../cast.js";
 import { CastPlayer } from "../cast_player.js";
-import { SequenceEnd } from "../sequence_end.js";
 
 const TOKEN = /^(?:\x1b\[[0-?]*[ -/]*[@-~]|\x1b\][^\x07\x18\x1b]*\x07|\x1b[^[\]]|[^\x1b])/;
 
@@ -31,6 +30,10 @@ class LogParser {
 
   get size() {
     return { rows: this.#screen.rows, cols: this.#screen.cols };
+  }
+
+  get isGround() {
+    return this.#unfinished === "";
   }
 
   process(text) {
@@ -70,7 +73,24 @@ class LogParser {
 
 const HEADER = '{"version": 2, "width": 80, "height": 24}';
 const castOf = (...events) => new Cast([HEADER, ...events.map((event) => JSON.stringify(event))].join("\n"));
-const LIBRARY = { Parser: LogParser };
+/** A stand-in for Charsets that translates one character, and counts its objects. */
+class LineCharsets {
+  static alive = 0;
+
+  constructor() {
+    LineCharsets.alive++;
+  }
+
+  translate(text) {
+    return new TextEncoder().encode(text.replaceAll("¤", "─"));
+  }
+
+  free() {
+    LineCharsets.alive--;
+  }
+}
+
+const LIBRARY = { Parser: LogParser, Charsets: LineCharsets };
 
 /** A clock that the test moves. */
 class Clock {
@@ -130,6 +150,44 @@ test("speed", () => {
   clock.pass(1);
   assert.equal(player.parser.log, "a");
   for (const rate of [0, -1, NaN, Infinity]) assert.throws(() => (player.playbackRate = rate), RangeError);
+  for (const rate of ["2", null, undefined]) assert.throws(() => (player.playbackRate = rate), TypeError);
+  assert.equal(player.playbackRate, 1);
+});
+
+test("steps to the next and the last output", () => {
+  const player = new CastPlayer(LIBRARY, castOf([1, "o", "a"], [2, "i", "x"], [3, "r", "10x5"], [3, "o", "b"], [4, "o", "c"]));
+  const seen = [1, 1, 1, 1, -1, -1, -1].map((count) => {
+    player.step(count);
+    return [player.currentTime, player.parser.log];
+  });
+  const [none, a, b, c] = [[0, ""], [1, "a"], [3, "a<10x5>b"], [4, "a<10x5>bc"]];
+  assert.deepEqual(seen, [a, b, c, c, b, a, none]);
+  player.play();
+  player.step(1);
+  assert.ok(player.paused);
+});
+
+test("wrong recordings and options are refused", () => {
+  const cast = castOf([1, "o", "a"]);
+  const ofWrongTypes = [
+    5, null, { speed: 2 }, { keyframes: { intervall: 5 } }, { playbackRate: "2" }, { idleTimeLimit: "2" },
+    { keyframes: { interval: "5" } }, { keyframes: { limit: null } }, { keyframes: 5 },
+  ];
+  for (const options of ofWrongTypes) {
+    assert.throws(() => new CastPlayer(LIBRARY, cast, options), TypeError, JSON.stringify(options));
+  }
+  const outOfRange = [
+    { playbackRate: 0 }, { playbackRate: Infinity }, { keyframes: { interval: 0 } }, { keyframes: { limit: 0.5 } },
+  ];
+  for (const options of outOfRange) {
+    assert.throws(() => new CastPlayer(LIBRARY, cast, options), RangeError, JSON.stringify(options));
+  }
+  const player = new CastPlayer(LIBRARY, cast);
+  for (const count of [0, NaN]) assert.throws(() => player.step(count), RangeError);
+  for (const count of ["1", undefined]) assert.throws(() => player.step(count), TypeError);
+  for (const other of [{ rows: 1, cols: 1, events: [] }, "text", 5]) {
+    assert.throws(() => new CastPlayer(LIBRARY, other), TypeError);
+  }
 });
 
 test("idle limit and markers", () => {
@@ -193,7 +251,7 @@ test("fewer screens are saved when memory is short", () => {
     }
   }
   const events = Array.from({ length: 100 }, (_, k) => [k, "o", "x"]);
-  const player = new CastPlayer({ Parser: ShortParser }, castOf(...events), { keyframes: { interval: 1, limit: 50 } });
+  const player = new CastPlayer({ ...LIBRARY, Parser: ShortParser }, castOf(...events), { keyframes: { interval: 1, limit: 50 } });
   player.seek(99);
   player.seek(20);
   assert.equal(player.parser.log, "x".repeat(21));
@@ -202,7 +260,7 @@ test("fewer screens are saved when memory is short", () => {
       throw new Error("broken");
     }
   }
-  assert.throws(() => new CastPlayer({ Parser: BrokenParser }, castOf(...events)), /broken/);
+  assert.throws(() => new CastPlayer({ ...LIBRARY, Parser: BrokenParser }, castOf(...events)), /broken/);
 });
 
 test("seeking limits the time, and refuses what is not a number", () => {
@@ -217,24 +275,11 @@ test("seeking limits the time, and refuses what is not a number", () => {
   assert.deepEqual([new CastPlayer(LIBRARY, castOf()).duration, new CastPlayer(LIBRARY, castOf()).ended], [0, true]);
 });
 
-test("the end of sequences", () => {
-  const isReachedAfter = (...parts) => {
-    const sequence = new SequenceEnd();
-    for (const part of parts) sequence.read(part);
-    return sequence.isReached;
-  };
-  const whole = [
-    "text", "\x1b[m", "\x1b[38;5;1mtext", "\x1b[?25h", "\x1b(B", "\x1b7", "\x1b]0;title\x07", "\x1b]0;title\x1b\\",
-    "\x1bPdata\x1b\\", "\x1b[1 q", "\x1b[ \x1b[m",
-  ];
-  const unfinished = [
-    "\x1b", "a\x1b[", "\x1b[1;2", "\x1b[1 ", "\x1b(", "\x1b]0;title", "\x1bPdata", "\x1b[m\x1b[", "\x1b_apc",
-    "\x1b^pm", "\x1bXsos", "\x1b[1\n", "\x1b]0;title\x1b",
-  ];
-  for (const text of whole) {
-    assert.equal(isReachedAfter(text), true, JSON.stringify(text));
-    for (let at = 1; at < text.length; at++) assert.equal(isReachedAfter(text.slice(0, at), text.slice(at)), true, text);
-  }
-  for (const text of unfinished) assert.equal(isReachedAfter(text), false, JSON.stringify(text));
-  assert.equal(isReachedAfter("\x1b]0;" + "x".repeat(100000), "y\x07"), true);
+test("output is translated before the parser reads it, and nothing else is", () => {
+  const player = new CastPlayer(LIBRARY, castOf([1, "o", "a¤"], [2, "m", "¤"], [3, "i", "¤"], [4, "o", "¤"]));
+  player.seek(4);
+  assert.equal(player.parser.log, "a──");
+  assert.deepEqual(player.markers.map(({ label }) => label), ["¤"]);
+  assert.equal(player.cast.events[0].data, "a¤");
+  assert.equal(LineCharsets.alive, 0);
 });

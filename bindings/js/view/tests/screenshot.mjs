@@ -15,7 +15,7 @@ const browser = await Browser.start({ width: 752, height: 1010 });
 await browser.open(`http://127.0.0.1:${port}/view/view.html`);
 await browser.evaluate(`player.seek(9); document.getElementById("typed").value = ${JSON.stringify(TYPED)};
   document.getElementById("send").click(); player.view.select({ row: 5, col: 5 }, { row: 7, col: 16 });
-  new Promise((done) => setTimeout(done, 100))`);
+  new Promise((done) => requestAnimationFrame(() => requestAnimationFrame(() => done(0))))`);
 await writeFile(out, await browser.screenshot());
 await browser.stop();
 server.close();

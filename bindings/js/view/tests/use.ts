@@ -9,9 +9,11 @@ export async function use(text: string): Promise<number> {
   view.attach(parser);
   view.fit = "both";
   view.theme = new Theme({ background: "#000", palette: ["#111"] });
+  view.theme = { background: "#fff", foreground: "#222", palette: ["#111"] };
+  parser.toSvg({ theme: view.theme });
   view.addEventListener("scrollbackchange", ({ detail }) => detail.scrollback + detail.scrollbackLen);
   view.addEventListener("selectionchange", ({ detail }) => detail.range?.start.row);
-  view.addEventListener("focus", (event) => event.type);
+  view.addEventListener("pointerdown", ({ pointerType }) => pointerType);
   const range = view.selectedRange;
   if (range !== null) view.select(range.start, { row: range.end.row, col: 0 });
   const player = new CastPlayer(vt100, new Cast(text), { idleTimeLimit: 2, keyframes: { limit: 8 } });

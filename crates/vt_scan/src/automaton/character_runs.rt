@@ -24,7 +24,7 @@ impl Scanner {
         ensures fed { FeedsAll self.now (take (3 * result) bytes.now) self.now (map Character (take result text.new)) }
         ensures wide { All IsWideCharacter (take result text.new) }
     {
-        if self.is_fresh() {
+        if self.is_ground() {
             wide_characters(bytes, text)
         } else {
             0
@@ -47,7 +47,7 @@ impl Scanner {
         ensures fed { FeedsAll self.now (take result.1 bytes.now) self.now (map Character (take result.0 text.new)) }
         ensures narrow { All IsNarrowCharacter (take result.0 text.new) }
     {
-        if self.is_fresh() {
+        if self.is_ground() {
             narrow_characters(bytes, text)
         } else {
             (0, 0)

@@ -5,9 +5,9 @@ ghost use Rattle.std.specs.Prelude.{[], ◌∷◌, All, IfOk, IfSome};
 ghost use Rattle.std.specs.Prelude.{IsErr, IsSome, IsTrue, None, OnErr, Some};
 ghost use Rattle.std.specs.Prelude.{false, length, slice_index_or, take, true};
 ghost use Rattle.vt_cells.specs.Refusals.{OnlyOutOfMemory};
-ghost use Rattle.vt_scan.specs.Automaton.{Character};
+ghost use Rattle.vt_scan.specs.Automaton.{Character, State, start};
 ghost use Rattle.vt_scan.specs.Characters.{is_beginning, is_character};
-ghost use Rattle.vt_scan.specs.Scanner.{ExecutesItself, Feeds, FeedsAll, HasNoEvent, IsStray, ReadsItself};
+ghost use Rattle.vt_scan.specs.Scanner.{ExecutesItself, Feeds, FeedsAll, HasNoEvent, IsStray, ReadsItself, StandsFor};
 ghost use Rattle.vt_scan.specs.Internals.{IsUnended};
 ghost use Rattle.vt_scan.specs.Table.{class_of, transition_of};
 ghost use Rattle.vt_scan.specs.declared.event.Event.{Event};
@@ -30,7 +30,7 @@ impl Scanner {
             → Feeds self.now byte self.now (record { first = Some (Event.Character byte); second = None }) }
         ensures itself { IsTrue result ↔ ReadsItself self.now byte }
     {
-        is_printable(byte) && self.is_fresh()
+        is_printable(byte) && self.is_ground()
     }
 
     /// Returns the number of leading bytes that are printable ASCII and would each be reported as a
@@ -42,7 +42,7 @@ impl Scanner {
         ensures itself { All (ReadsItself self.now) (take result bytes.now) }
         ensures longest { result < length bytes.now → ReadsItself self.now (slice_index_or bytes.now result 0) → ⊥ }
     {
-        if self.is_fresh() {
+        if self.is_ground() {
             printable_len(bytes)
         } else {
             0
@@ -58,7 +58,7 @@ impl Scanner {
             → Feeds self.now byte self.now (record { first = Some (Event.Executed byte); second = None }) }
         ensures control { IsTrue result ↔ ExecutesItself self.now byte }
     {
-        is_control_byte(byte) && self.is_fresh()
+        is_control_byte(byte) && self.is_ground()
     }
 
     /// Returns whether feeding `byte` would only report U+FFFD: no sequence or character is
@@ -70,7 +70,7 @@ impl Scanner {
             → Feeds self.now byte self.now (record { first = Some (Event.Character 0xFFFD); second = None }) }
         ensures stray { IsTrue result ↔ IsStray self.now byte }
     {
-        is_stray_byte(byte) && self.is_fresh()
+        is_stray_byte(byte) && self.is_ground()
     }
 
     /// Returns the number of leading bytes that belong to an ignored control string (DCS, SOS, PM
@@ -129,17 +129,20 @@ impl Scanner {
         ensures all { (n : ℕ) → self.now.kind ≡ Kind.Ground → self.now.unfinished ≡ [] →
             is_character (take n bytes.now) ≡ true → IsSome result }
     {
-        if self.is_fresh() {
+        if self.is_ground() {
             first_character(bytes)
         } else {
             None
         }
     }
 
-    /// Returns whether the scanner is in the ground state and no character is incomplete.
+    /// Returns whether nothing is half read: no sequence, control string or character is incomplete
+    /// after the bytes parsed so far. The scanner then parses further bytes as a new scanner does.
     #[inline(always)]
-    pub(super) fn is_fresh(&self) -> bool
-        ensures { IsTrue result ↔ ((self.now.kind ≡ Kind.Ground) × (self.now.unfinished ≡ [])) }
+    pub fn is_ground(&self) -> bool
+        ensures held { IsTrue result ↔ ((self.now.kind ≡ Kind.Ground) × (self.now.unfinished ≡ [])) }
+        ensures start { IsTrue result ↔ StandsFor self.now start }
+        ensures state { (state : State) → StandsFor self.now state → IsTrue result ↔ (state ≡ start) }
     {
         match self.kind {
             Kind::Ground => self.unfinished.is_empty(),

@@ -83,13 +83,109 @@ test("cursor: styles, wide characters, hidden, and in a pending wrap", async () 
   assert.deepEqual(await browser.evaluate(`show(1, 4, "abcd"); pixel(0, 3, 0.95, 0.02)`), FOREGROUND);
 });
 
-test("a blinking cursor goes out, and a steady one does not", async () => {
-  const seen = (style) => browser.evaluate(`new Promise((done) => {
-    show(1, 4, "\\x1b[${style} q");
-    const found = new Set(), timer = setInterval(() => found.add(pixel(0, 0)[0]), 50);
-    setTimeout(() => { clearInterval(timer); done(found.size); }, 1500);
-  })`);
-  assert.deepEqual([await seen(1), await seen(2)], [2, 1]);
+test("the shape of a cursor is that of its style, and the default one is that of the view", async () => {
+  const corners = "[pixel(0, 0, 0.1, 0.1), pixel(0, 0, 0.95, 0.1), pixel(0, 0, 0.5, 0.97)].map(([red]) => red > 0x80)";
+  const expected = { 0: [true, false, false], 2: [true, true, true], 4: [false, false, true], 6: [true, false, false] };
+  for (const [style, lit] of Object.entries(expected)) {
+    assert.deepEqual(await browser.evaluate(`view.cursorShape = "bar"; show(1, 4, "\\x1b[${style} q"); ${corners}`), lit, style);
+  }
+  await browser.evaluate(`view.cursorShape = "block"; 0`);
+});
+
+test("the cursor stays on its row while the display is scrolled back", async () => {
+  const rows = "[0, 1, 2, 3].map((row) => pixel(row, 3, 0.5, 0.5)[0] > 0x80)";
+  const text = "1\\r\\n2\\r\\n3\\r\\n4\\r\\n5\\r\\n6\\x1b[2;4H\\x1b[2 q";
+  const seen = await browser.evaluate(`show(4, 6, "${text}", { scrollback: 10 });
+    [0, 1, 1, -1].map((count) => (view.scrollRows(count), ${rows}))`);
+  assert.deepEqual(seen, [
+    [false, true, false, false], [false, false, true, false], [false, false, false, true], [false, false, true, false],
+  ]);
+});
+
+test("a blinking cursor goes out and comes back, while a steady one stays", async () => {
+  assert.deepEqual(await browser.evaluate(`new Promise((done) => {
+    const second = new TerminalView(), steady = new vt100.Parser(1, 4);
+    document.body.append(second);
+    steady.process("\\x1b[2 q");
+    second.attach(steady);
+    second.draw();
+    show(1, 4, "\\x1b[1 q");
+    const lit = [], isLit = (element) => canvasOf(element).getContext("2d").getImageData(1, 1, 1, 1).data[0] > 0x80;
+    const timer = setInterval(() => {
+      if (lit.at(-1) !== isLit(view)) lit.push(isLit(view));
+      if (isLit(second) && lit.length < 3) return;
+      clearInterval(timer);
+      second.remove();
+      done([lit, isLit(second)]);
+    }, 20);
+  })`), [[true, false, true], true]);
+});
+
+test("a cursor does not blink where the reader wants no motion", async () => {
+  const media = (value) => browser.send("Emulation.setEmulatedMedia", { features: [{ name: "prefers-reduced-motion", value }] });
+  await media("reduce");
+  // The view begins to blink only after the draws below, if at all.
+  const intervals = await browser.evaluate(`(() => {
+    const original = globalThis.setInterval;
+    let count = 0;
+    globalThis.setInterval = (...values) => (count++, original(...values));
+    show(1, 4, "\\x1b[2 q");
+    parser.process("\\x1b[1 q");
+    view.draw();
+    globalThis.setInterval = original;
+    return count;
+  })()`);
+  assert.equal(intervals, 0);
+  await media("no-preference");
+});
+
+test("a view that is detached keeps what it has drawn", async () => {
+  assert.deepEqual(await browser.evaluate(`(() => {
+    const parser = show(1, 4, "\\x1b[?25lab"), before = digest();
+    view.detach();
+    parser.process("cd");
+    const seen = [view.draw(), digest() === before, view.screen];
+    view.attach(parser);
+    return [...seen, view.draw(), digest() === before];
+  })()`), [0, true, null, 1, false]);
+});
+
+test("a view that is detached does not blink", async () => {
+  assert.deepEqual(await browser.evaluate(`(() => {
+    const { setInterval, clearInterval } = globalThis, running = new Set();
+    globalThis.setInterval = (...values) => {
+      const timer = setInterval(...values);
+      running.add(timer);
+      return timer;
+    };
+    globalThis.clearInterval = (timer) => {
+      running.delete(timer);
+      clearInterval(timer);
+    };
+    show(1, 4, "\\x1b[2 q");
+    parser.process("\\x1b[1 q");
+    view.draw();
+    const counts = [running.size];
+    view.detach();
+    counts.push(running.size);
+    Object.assign(globalThis, { setInterval, clearInterval });
+    return counts;
+  })()`), [1, 0]);
+});
+
+test("many requests are one drawing, before the next frame", async () => {
+  const found = await browser.evaluate(`(async () => {
+    const { draw } = view, drawn = [];
+    show(1, 4, "");
+    view.draw = () => drawn.push(draw.call(view));
+    parser.process("\\x1b[48;2;200;0;0m \\x1b[m");
+    for (let count = 0; count < 3; count++) view.requestDraw();
+    const before = [pixel(0, 0), drawn.length];
+    await new Promise((done) => requestAnimationFrame(() => requestAnimationFrame(done)));
+    delete view.draw;
+    return [...before, pixel(0, 0), drawn];
+  })()`);
+  assert.deepEqual(found, [[212, 212, 212], 0, [200, 0, 0], [1]]);
 });
 
 test("only rows that have changed are drawn", async () => {
@@ -175,15 +271,30 @@ test("a canvas has whole device pixels, also after the window has moved to anoth
   await setScale(1);
 });
 
+test("the height of a line is a multiple of the font's", async () => {
+  const [plain, double, name] = await browser.evaluate(`(() => {
+    show(2, 10, "text");
+    const before = view.cellHeight;
+    view.lineHeight = 2;
+    view.redraw();
+    const found = [before, view.cellHeight, view.getAttribute("line-height")];
+    view.removeAttribute("line-height");
+    view.redraw();
+    return found;
+  })()`);
+  assert.deepEqual([double, name], [2 * plain, "2"]);
+});
+
 test("the largest font with which the screen fits", async () => {
   const [width, height, larger] = await browser.evaluate(`(async () => {
     show(24, 80, "text");
     view.style.cssText = "width: 700px; height: 400px";
     view.fit = "both";
-    await new Promise((done) => setTimeout(done, 200));
+    const nextSize = () => new Promise((done) => view.addEventListener("cellsizechange", done, { once: true }));
+    await nextSize();
     const { width, height } = canvasOf().getBoundingClientRect(), cell = view.cellHeight;
     view.style.cssText = "width: 1400px; height: 800px";
-    await new Promise((done) => setTimeout(done, 200));
+    await nextSize();
     const larger = view.cellHeight / cell;
     view.fit = "none";
     view.style.cssText = "";

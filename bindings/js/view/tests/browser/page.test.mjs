@@ -7,7 +7,6 @@ import { SESSION, SESSION_OUTPUT, openPage } from "./setup.mjs";
 
 const browser = await openPage("view.html");
 const VTSHOW = process.env.VTSHOW ?? "";
-const wait = (ms) => browser.evaluate(`new Promise((done) => setTimeout(done, ${ms}))`);
 
 /** Returns what vtshow prints after the output up to a time. The recording's size is 80x24 before there is output. */
 async function vtshow(mode, time = Infinity) {
@@ -45,10 +44,17 @@ test("playing and seeking end with the screens that vtshow prints", { skip: VTSH
 test("the button, the slider, the speed and the keys", async () => {
   const find = (selector) => `player.shadowRoot.querySelector(${JSON.stringify(selector)})`;
   await browser.evaluate("player.pause(); player.playbackRate = 1; player.seek(1)");
-  await browser.evaluate(`${find("button")}.click()`);
-  await wait(300);
-  const [time, isPaused] = await browser.evaluate("[player.currentTime, player.paused]");
-  assert.ok(!isPaused && time > 1.1 && time < 3, `${time}`);
+  // The time at least and at most since the button was pressed, beside the time of the recording.
+  const [least, passed, most, isPaused] = await browser.evaluate(`new Promise((done) => {
+    const before = performance.now();
+    ${find("button")}.click();
+    const after = performance.now();
+    player.addEventListener("timeupdate", () => {
+      const begun = performance.now(), { currentTime } = player, ended = performance.now();
+      if (currentTime > 1.1) done([(begun - after) / 1000, currentTime - 1, (ended - before) / 1000, player.paused]);
+    });
+  })`);
+  assert.ok(!isPaused && least - 0.001 <= passed && passed <= most + 0.001, `${passed}, not ${least} to ${most}`);
   await browser.evaluate(`${find("button")}.click()`);
   assert.equal(await browser.evaluate("player.paused"), true);
   await browser.evaluate(`${find("input")}.value = 4; ${find("input")}.dispatchEvent(new Event("input"))`);
@@ -75,6 +81,18 @@ test("the playground shows the screen, its redraw and the diff", async () => {
   const [, second] = await send("x");
   assert.ok(second.includes("x") && !second.includes("red"), second);
   assert.match((await send("\\q"))[2], /no such escape: \\q/);
+});
+
+test("in a narrow window, both screens are displayed as a whole", async () => {
+  const setWidth = (width) =>
+    browser.send("Emulation.setDeviceMetricsOverride", { width, height: 800, deviceScaleFactor: 1, mobile: false });
+  await setWidth(320);
+  const isWhole = `[player.view, document.getElementById("screen")].every((view) => {
+    const { width } = view.shadowRoot.querySelector("canvas").getBoundingClientRect();
+    return width > 150 && width <= view.clientWidth;
+  })`;
+  assert.ok(await browser.until(`${isWhole} && document.documentElement.scrollWidth <= 320`));
+  await setWidth(1000);
 });
 
 test("without a recording, the page reports it, and still has the playground", async () => {

@@ -20,10 +20,8 @@ const others = {
 const browser = await openPage("../first.html", {}, others);
 
 test("the first page displays its text", async () => {
-  await browser.evaluate("new Promise((done) => setTimeout(done, 600))");
-  const text = await browser.evaluate(`document.getElementById("view").shadowRoot
-    .querySelector(".accessible").textContent`);
-  assert.match(text, /this text is RED/);
+  const text = `document.getElementById("view").shadowRoot.querySelector(".accessible").textContent`;
+  assert.match(await browser.until(text), /this text is RED/);
 });
 
 test("a player plays on a view", async () => {
@@ -39,10 +37,8 @@ test("a player plays on a view", async () => {
 
 test("the second page plays the recording", async () => {
   await browser.open((await browser.evaluate("location.href")).replace("first", "second"));
-  await browser.evaluate("new Promise((done) => setTimeout(done, 1500))");
   const player = `document.querySelector("vt100-player")`;
-  const [paused, time] = await browser.evaluate(`[${player}.paused, ${player}.currentTime]`);
-  assert.ok(!paused && time > 0.2, `${paused} ${time}`);
+  assert.equal(await browser.until(`${player}.currentTime > 0.2 && !${player}.paused`), true);
 });
 
 test("no errors were reported", () => {

@@ -9,7 +9,7 @@ const ARGUMENTS = [
   "--headless=new", "--no-sandbox", "--disable-gpu", "--hide-scrollbars", "--mute-audio", "--no-first-run",
   "--disable-background-networking", "--disable-component-update", "--remote-debugging-pipe",
 ];
-const TIMEOUT = 60_000;
+const TIMEOUT = 300_000;
 
 /** Returns a promise that is rejected after a while. */
 function inTime(promise, what) {
@@ -29,18 +29,23 @@ export class Browser {
   /** What the page has written to its console, and its uncaught errors. */
   messages = [];
 
-  /** Starts a browser with a window of a size in CSS pixels, and a number of device pixels for each. */
-  static async start({ command = "chromium", width = 1000, height = 800, scale = 1 } = {}) {
+  /**
+   * Starts a browser with a window of a size in CSS pixels, and a number of device pixels for each. `ratio` is the number
+   * that the monitor has; it is emulated unless `isRealRatio` is true.
+   */
+  static async start({ command = "chromium", width = 1000, height = 800, ratio = 1, isRealRatio = false } = {}) {
     const browser = new Browser();
     browser.#profile = await mkdtemp(join(tmpdir(), "viewer-"));
     const given = [`--user-data-dir=${browser.#profile}`, `--window-size=${width},${height}`];
+    if (isRealRatio) given.push(`--force-device-scale-factor=${ratio}`);
     browser.#process = spawn(command, [...ARGUMENTS, ...given], { stdio: ["ignore", "ignore", "ignore", "pipe", "pipe"] });
     browser.#process.stdio[4].setEncoding("utf8").on("data", (text) => browser.#read(text));
     const { targetId } = await browser.#send("Target.createTarget", { url: "about:blank" });
     const { sessionId } = await browser.#send("Target.attachToTarget", { targetId, flatten: true });
     browser.#session = sessionId;
     await Promise.all([browser.send("Page.enable"), browser.send("Runtime.enable")]);
-    await browser.send("Emulation.setDeviceMetricsOverride", { width, height, deviceScaleFactor: scale, mobile: false });
+    const deviceScaleFactor = isRealRatio ? 0 : ratio; // 0 leaves it as it is
+    await browser.send("Emulation.setDeviceMetricsOverride", { width, height, deviceScaleFactor, mobile: false });
     return browser;
   }
 
@@ -74,8 +79,14 @@ export class Browser {
   /** Opens a page, and waits until its script has said that it is ready. */
   async open(url) {
     await this.send("Page.navigate", { url });
-    await this.evaluate(`new Promise((done) => (function wait() {
-      document.body?.dataset.isReady ? done() : setTimeout(wait, 20);
+    await this.until("document.body?.dataset.isReady");
+  }
+
+  /** Waits until an expression is true in the page, and returns its value. */
+  until(condition) {
+    return this.evaluate(`new Promise((done) => (function wait() {
+      const value = (() => (${condition}))();
+      value ? done(value) : setTimeout(wait, 20);
     })())`);
   }
 
@@ -103,6 +114,20 @@ export class Browser {
     await this.mouse("mousePressed", ...from, { button: "left", clickCount: 1 });
     await this.mouse("mouseMoved", ...to, { button: "left", buttons: 1 });
     await this.mouse("mouseReleased", ...to, { button: "left", clickCount: 1 });
+  }
+
+  /** Puts a finger on a point, moves it through others, and lifts it. */
+  async swipe([from, ...points]) {
+    const touch = (type, touchPoints) => this.send("Input.dispatchTouchEvent", { type, touchPoints });
+    await touch("touchStart", [{ x: from[0], y: from[1] }]);
+    for (const [x, y] of points) await touch("touchMove", [{ x, y }]);
+    await touch("touchEnd", []);
+  }
+
+  /** Presses a key, whose name is that of KeyboardEvent.key. */
+  async press(key, { modifiers = 0, code = key, ...more } = {}) {
+    await this.send("Input.dispatchKeyEvent", { type: "rawKeyDown", key, code, modifiers, ...more });
+    await this.send("Input.dispatchKeyEvent", { type: "keyUp", key, code, modifiers });
   }
 
   /** Clicks once, twice or three times. */

@@ -1,11 +1,13 @@
 -- The byte that ends a control sequence or an escape sequence.
-use Rattle.std.proofs.Common.{[], ◌∷◌, ◌∙◌, List, ℕ, get_or, inl, inr, refl, subst, sym, arith}
+use Rattle.std.proofs.Common.{[], ◌∷◌, ◌∙◌, List, ℕ, get_or, inl, inr, refl, subst, sym, take, arith}
 use Rattle.std.proofs.lemmas.List.{take_more}
 use Rattle.vt_scan.specs.Scanner.{Feeds, ScannerValue}
 use Rattle.vt_scan.specs.declared.event.Event.TheVariants.{Csi, Escape, Osc}
 use Rattle.vt_scan.proofs.Steps.{one_event}
 use Rattle.vt_scan.proofs.Leading.{feeds_none}
 use Rattle.vt100.specs.Parser.{Ran, parser_value, stage}
+use Rattle.vt100.specs.Erasures.{CountsErasures}
+use Rattle.vt100.proofs.Erasing.{first_counts}
 use Rattle.vt100.proofs.Running.{stopped_at_first, byte_ran, known_ran, released_ran, some_read, stopped_in}
 use Rattle.vt100.proofs.Running.{stopped_within}
 use Rattle.vt100.proofs.processing.end_sequence.Goals as goal
@@ -80,3 +82,40 @@ returns-then-take_command_byte-clause-last g c = inr (omega arith, λ s stands. 
 
 pub returns-clause-last : goal.returns-clause-last
 returns-clause-last g c = inl (refl, λ s stands. (c.args.screen.now, refl))
+
+pub returns-in-Ok-clause-erased : goal.returns-in-Ok-clause-erased
+returns-in-Ok-clause-erased g c =
+    let held = c.args.scanner.now in
+    let bytes = c.args.bytes.now in
+    let old = c.args.erasures.now in
+    subst (λ (new : ℕ). CountsErasures held (take 1 bytes) old new) (sym c.count_sequence.ensures)
+    (first_counts held c.take_final_byte.new.self bytes (one_event (Csi (get_or bytes 0 0))) old c.requires
+    (c.take_final_byte.ensures.fed c.if-take_final_byte.true))
+
+pub returns-in-Err-clause-erased : goal.returns-in-Err-clause-erased
+returns-in-Err-clause-erased g c s stands = refl
+
+pub returns-then-take_escape_byte-clause-erased : goal.returns-then-take_escape_byte-clause-erased
+returns-then-take_escape_byte-clause-erased g c =
+    let held = c.args.scanner.now in
+    let bytes = c.args.bytes.now in
+    let byte = get_or bytes 0 0 in
+    let old = c.args.erasures.now in
+    let fed : Feeds held byte c.take_escape_byte.new.self (one_event (Escape byte)) =
+    subst (λ (one : ScannerValue). Feeds one byte c.take_escape_byte.new.self (one_event (Escape byte)))
+    (c.take_final_byte.ensures.kept c.if-take_final_byte.false) (c.take_escape_byte.ensures.fed c.if-take_escape_byte.true) in
+    subst (λ (new : ℕ). CountsErasures held (take 1 bytes) old new) (sym c.count_escape.ensures)
+    (first_counts held c.take_escape_byte.new.self bytes (one_event (Escape byte)) old c.requires fed)
+
+pub returns-then-take_command_byte-clause-erased : goal.returns-then-take_command_byte-clause-erased
+returns-then-take_command_byte-clause-erased g c =
+    let bytes = c.args.bytes.now in
+    let byte = get_or bytes 0 0 in
+    let fed : Feeds c.args.scanner.now byte c.take_command_byte.new.self (one_event Osc) =
+    subst (λ (one : ScannerValue). Feeds one byte c.take_command_byte.new.self (one_event Osc))
+    (c.take_escape_byte.ensures.kept c.if-take_escape_byte.false ∙ c.take_final_byte.ensures.kept c.if-take_final_byte.false)
+    (c.take_command_byte.ensures.fed c.if-take_command_byte.true) in
+    first_counts c.args.scanner.now c.take_command_byte.new.self bytes (one_event Osc) c.args.erasures.now c.requires fed
+
+pub returns-clause-erased : goal.returns-clause-erased
+returns-clause-erased g c s stands = refl

@@ -4,6 +4,7 @@ use Rattle.vt_scan.specs.Automaton.{Character}
 use Rattle.vt_screen.specs.Screen.{ScreenValue}
 use Rattle.vt_screen.specs.Texts.{screen_after_text}
 use Rattle.vt100.specs.Parser.{Ran, invokes_none, parser_value}
+use Rattle.vt100.proofs.Erasing.{characters_erase_nothing}
 use Rattle.vt100.proofs.PrintedRuns.{narrow_folds}
 use Rattle.vt100.proofs.Running.{known_ran}
 use Rattle.vt100.proofs.processing.print_narrow_fitting.Goals as goal
@@ -27,4 +28,5 @@ returns c =
           (sym c.print_narrow_text.ensures)
           (known_ran invokes_none before (parser_value held (screen_after_text text screen) tt) read (map Character text)
           found.fed (narrow_folds invokes_none text tt screen found.narrow room));
+      keeps = characters_erase_nothing held held read text found.fed;
     }

@@ -6,6 +6,7 @@ use Rattle.vt_scan.proofs.Steps.{text_feeds}
 use Rattle.vt_screen.specs.Screen.{ScreenValue}
 use Rattle.vt_screen.specs.Texts.{screen_after_text}
 use Rattle.vt100.specs.Parser.{Ran, invokes_none, parser_value, stage}
+use Rattle.vt100.proofs.Erasing.{first_counts, text_erases_nothing}
 use Rattle.vt100.proofs.PrintedRuns.{printable_of, some_taken, text_ran}
 use Rattle.vt100.proofs.Running.{stopped_at_first, byte_ran, one_character, text_answer, some_read, stopped_in}
 use Rattle.vt100.proofs.Running.{stopped_within}
@@ -117,3 +118,20 @@ returns-clause-last g c =
             s stands).1,
       ),
     )
+
+pub returns-in-Ok-clause-keeps : goal.returns-in-Ok-clause-keeps
+returns-in-Ok-clause-keeps g c count =
+    let held = c.args.scanner.now in
+    let byte = get_or c.args.bytes.now 0 0 in
+    let itself = c.requires.itself in
+    let feeds = text_feeds held byte itself.0 itself.1 itself.2 (omega (arith, itself.3)) in
+    first_counts held held c.args.bytes.now (one_character c.from.result) count c.requires.nonempty
+    (text_answer held byte c.from.result feeds c.from.ensures)
+
+pub returns-in-Err-clause-keeps : goal.returns-in-Err-clause-keeps
+returns-in-Err-clause-keeps g c count s stands = refl
+
+pub returns-clause-keeps : goal.returns-clause-keeps
+returns-clause-keeps g c =
+    text_erases_nothing (take c.text_len-count.result c.args.bytes.now) c.args.scanner.now
+    (plain_text g (goal.at.returns-clause-keeps g c).After-text_len-count)

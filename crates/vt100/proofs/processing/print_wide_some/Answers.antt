@@ -5,6 +5,7 @@ use Rattle.vt_scan.specs.Scanner.{FeedsAll}
 use Rattle.vt_screen.specs.Screen.{ScreenValue}
 use Rattle.vt_screen.specs.Texts.{screen_after_text}
 use Rattle.vt100.specs.Parser.{Ran, invokes_none, parser_value}
+use Rattle.vt100.proofs.Erasing.{characters_erase_nothing}
 use Rattle.vt100.proofs.PrintedRuns.{wide_folds}
 use Rattle.vt100.proofs.Running.{known_ran}
 use Rattle.vt100.proofs.processing.print_wide_some.Goals as goal
@@ -35,4 +36,5 @@ returns c =
           (sym c.print_wide_text.ensures)
           (known_ran invokes_none before (parser_value held (screen_after_text text screen) tt) read (map Character text)
           fed (wide_folds invokes_none text tt screen found.wide room));
+      keeps = characters_erase_nothing held held read text fed;
     }

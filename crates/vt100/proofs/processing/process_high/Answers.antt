@@ -46,3 +46,9 @@ returns-clause-last g c =
     c.print_run-printed.result k zero (ran_silently does c.args.callbacks.now held held _ _ _ read.ran)
     (inl (refl, λ s stands. (c.print_run-printed.new.screen, (read.ran s stands).1))))
     c.process_one.ensures.last
+
+pub returns-then-printed-gt0-clause-erased : goal.returns-then-printed-gt0-clause-erased
+returns-then-printed-gt0-clause-erased g c = c.print_run-printed.ensures.keeps c.args.erasures.now
+
+pub returns-clause-erased : goal.returns-clause-erased
+returns-clause-erased g c = c.process_one.ensures.erased

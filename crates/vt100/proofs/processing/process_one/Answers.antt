@@ -5,6 +5,7 @@ use Rattle.vt_scan.specs.Automaton.{Character}
 use Rattle.vt_scan.specs.declared.event.Event.TheVariants as given
 use Rattle.vt_scan.proofs.Steps.{one_event}
 use Rattle.vt100.specs.Parser.{Ran, parser_value, stage}
+use Rattle.vt100.proofs.Erasing.{first_counts, known_counts}
 use Rattle.vt100.proofs.Running.{byte_ran, stopped_at_first, stopped_at_last, known_ran, known_stopped, some_read}
 use Rattle.vt100.proofs.Running.{stopped_in, stopped_within}
 use Rattle.vt100.proofs.processing.process_one.Goals as goal
@@ -65,3 +66,24 @@ returns-in-Ok-print_apart-clause-read g c =
 
 pub returns-in-Ok-print_apart-clause-last : goal.returns-in-Ok-print_apart-clause-last
 returns-in-Ok-print_apart-clause-last g c = inr (omega arith, λ s stands. refl)
+
+pub returns-in-Ok-clause-erased : goal.returns-in-Ok-clause-erased
+returns-in-Ok-clause-erased g c =
+    let held = c.args.scanner.now in
+    known_counts held held (take c.in-Some.count c.args.bytes.now) (Character c.in-Some.character ∷ [])
+    c.args.erasures.now c.in-Some.ensures.fed
+
+pub returns-in-Err-clause-erased : goal.returns-in-Err-clause-erased
+returns-in-Err-clause-erased g c s stands = refl
+
+pub returns-in-Ok-print_apart-clause-erased : goal.returns-in-Ok-print_apart-clause-erased
+returns-in-Ok-print_apart-clause-erased g c =
+    let held = c.args.scanner.now in
+    first_counts held held c.args.bytes.now (one_event (given.Character 0xFFFD)) c.args.erasures.now c.requires
+    (c.is_stray.ensures.feeds c.if-is_stray.true)
+
+pub returns-in-Err-print_apart-clause-erased : goal.returns-in-Err-print_apart-clause-erased
+returns-in-Err-print_apart-clause-erased g c s stands = refl
+
+pub returns-clause-erased : goal.returns-clause-erased
+returns-clause-erased g c = c.process_rest.ensures.erased

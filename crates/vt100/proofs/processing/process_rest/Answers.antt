@@ -1,5 +1,8 @@
-use Rattle.std.proofs.Common.{◌≡◌, ℕ, [], inl, inr, refl, subst, take, arith}
+use Rattle.std.proofs.Common.{◌≡◌, ℕ, [], inl, inr, refl, subst, sym, take, arith}
+use Rattle.vt_scan.specs.Scanner.{FeedsAll}
+use Rattle.vt100.specs.Erasures.{CountsErasures}
 use Rattle.vt100.specs.Parser.{Ran, parser_value}
+use Rattle.vt100.proofs.Erasing.{first_counts, known_counts, later_counts}
 use Rattle.vt100.proofs.Running.{stopped_at_after, stopped_at_first, known_ran, silent_none, stopped_in, stopped_within}
 use Rattle.vt100.proofs.processing.process_rest.Goals as goal
 
@@ -38,3 +41,26 @@ returns-then-collected-gt0-clause-last g c =
       silent_none c.args.screen.now c.args.scanner.now c.take_command_text.new.self (take c.in-Ok.collected c.args.bytes.now)
           c.in-Ok.ensures.fed,
     )
+
+pub returns-then-skipped-gt0-clause-erased : goal.returns-then-skipped-gt0-clause-erased
+returns-then-skipped-gt0-clause-erased g c =
+    known_counts c.args.scanner.now c.args.scanner.now (take c.skipped_len-skipped.result c.args.bytes.now) []
+    c.args.erasures.now c.skipped_len-skipped.ensures.fed
+
+pub returns-then-collected-gt0-clause-erased : goal.returns-then-collected-gt0-clause-erased
+returns-then-collected-gt0-clause-erased g c =
+    known_counts c.args.scanner.now c.take_command_text.new.self (take c.in-Ok.collected c.args.bytes.now) []
+    c.args.erasures.now c.in-Ok.ensures.fed
+
+pub returns-in-Ok-perform_each-clause-erased : goal.returns-in-Ok-perform_each-clause-erased
+returns-in-Ok-perform_each-clause-erased g c =
+    let held = c.args.scanner.now in
+    let led = c.take_command_text.new.self in
+    let bytes = c.args.bytes.now in
+    let old = c.args.erasures.now in
+    let zero : c.in-Ok.collected ≡ 0 = omega (arith, c.if-collected-gt0.false) in
+    let fed : FeedsAll held (take 0 bytes) led [] =
+    subst (λ (n : ℕ). FeedsAll held (take n bytes) led []) zero c.in-Ok.ensures.fed in
+    later_counts held led (take 1 bytes) old c.count_each.new.erasures (λ s stands. (fed s stands).0)
+    (subst (λ (new : ℕ). CountsErasures led (take 1 bytes) old new) (sym c.count_each.ensures)
+    (first_counts led c.feed.new.self bytes c.in-Ok-feed.events old c.requires c.in-Ok-feed.ensures.fed))

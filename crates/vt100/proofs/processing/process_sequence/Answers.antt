@@ -1,7 +1,10 @@
 -- The bytes that lead into a sequence, and the byte after them if it ends the sequence.
 use Rattle.std.proofs.Common.{[], ◌≤◌, ◌+◌, List, ℕ, drop, inl, length, refl, subst, take, rules}
+use Rattle.vt_scan.specs.Automaton.{run}
 use Rattle.vt_scan.proofs.Lists.{all_left}
 use Rattle.vt100.specs.Parser.{CallsByLast, Ran, Stopped, StoppedAt, parser_value}
+use Rattle.vt100.specs.Erasures.{CountsErasures}
+use Rattle.vt100.proofs.Erasing.{counts_on, known_counts}
 use Rattle.vt100.proofs.Running.{stopped_at_then, known_ran, led_by_last, ran_on, silent_none, some_read, stopped_in}
 use Rattle.vt100.proofs.Running.{stopped_then}
 use Rattle.vt100.proofs.processing.process_sequence.Goals as goal
@@ -58,3 +61,26 @@ returns-then-leading-bytes-clause-last g c =
       silent_none c.args.screen.now c.args.scanner.now c.take_introducer-leading.new.self
           (take c.take_introducer-leading.result c.args.bytes.now) c.take_introducer-leading.ensures.fed,
     )
+
+pub returns-then-leading-bytes-clause-erased : goal.returns-then-leading-bytes-clause-erased
+returns-then-leading-bytes-clause-erased g c =
+    known_counts c.args.scanner.now c.take_introducer-leading.new.self
+    (take c.take_introducer-leading.result c.args.bytes.now) [] c.args.erasures.now c.take_introducer-leading.ensures.fed
+
+pub returns-in-Ok-clause-erased : goal.returns-in-Ok-clause-erased
+returns-in-Ok-clause-erased g c =
+    let held = c.args.scanner.now in
+    let bytes = c.args.bytes.now in
+    let leading = c.take_introducer-leading.result in
+    let led = c.take_introducer-leading.new.self in
+    let old = c.args.erasures.now in
+    let new = c.end_sequence.new.erasures in
+    counts_on held led bytes leading c.in-Ok.last old old new (λ s stands. (c.take_introducer-leading.ensures.fed s stands).0)
+    (known_counts held led (take leading bytes) [] old c.take_introducer-leading.ensures.fed)
+    (subst (λ (left : List ℕ). CountsErasures led (take c.in-Ok.last left) old new) (all_left bytes leading)
+    c.in-Ok.ensures.erased)
+
+pub returns-in-Err-clause-erased : goal.returns-in-Err-clause-erased
+returns-in-Err-clause-erased g c s stands =
+    let leading = c.take_introducer-leading.result in
+    c.in-Err.ensures.erased (run s (take leading c.args.bytes.now)).state (c.take_introducer-leading.ensures.fed s stands).0

@@ -1,5 +1,5 @@
--- Both the screen and the callbacks are mutably borrowed, and the parser changes with them. Its other two fields stay
--- inside the borrow, together with the way back from all four. Assumes `Logic`.
+-- Both the screen and the callbacks are mutably borrowed, and the parser changes with them. Its other three fields stay
+-- inside the borrow, together with the way back from all five. Assumes `Logic`.
 use mathlib.Core.Path.{◌≡◌, refl, sym, ap, subst}
 use Prim.Native.Nat.{ℕ, ◌+◌}
 use mathlib.Core.List.{List, [], ◌∷◌, ◌++◌}
@@ -87,11 +87,12 @@ module _ (T : RattleType) (laws : Laws T) (g : declared.Ghosts T.Denot) (d : Dic
   abbrev stayed : Stays end.signature.params end.kept
   stayed = (stay_dropped (mut_ref_to (0 ∷ []) tt (plain (λ _. Whole))) no, tt)
 
-  -- The four fields of a parser, with their bounds.
+  -- The five fields of a parser, with their bounds.
   abbrev members : List Member
   members =
       record { row = Scanned; ty = lone Scanned.mir } ∷ record { row = Shown; ty = lone Shown.mir }
-      ∷ record { row = Kept; ty = lone Kept.mir } ∷ record { row = builtin.bool; ty = lone (builtin.bool).mir } ∷ []
+      ∷ record { row = Kept; ty = lone Kept.mir } ∷ record { row = builtin.bool; ty = lone (builtin.bool).mir }
+      ∷ record { row = builtin.u64; ty = lone (builtin.u64).mir } ∷ []
 
   abbrev past : Ty → ℕ → ℕ
   past τ e = up (align τ) e + size τ
@@ -106,8 +107,13 @@ module _ (T : RattleType) (laws : Laws T) (g : declared.Ghosts T.Denot) (d : Dic
   failed_at =
       up (align (lone (builtin.bool).mir)) (past (lone Kept.mir) (past (lone Shown.mir) (past (lone Scanned.mir) 0)))
 
+  abbrev counted_at : ℕ
+  counted_at =
+      up (align (lone (builtin.u64).mir)) (past (lone (builtin.bool).mir) (past (lone Kept.mir) (past (lone Shown.mir)
+      (past (lone Scanned.mir) 0))))
+
   abbrev values : Inside.Denot → Denots (rows_of members)
-  values a = (a.scanner, (a.screen, (a.callbacks, (a.is_failed, tt))))
+  values a = (a.scanner, (a.screen, (a.callbacks, (a.is_failed, (a.erasures, tt)))))
 
   abbrev view : Inside.Denot → Whole.Denot
   view = parser.the_view Kept g
@@ -118,7 +124,7 @@ module _ (T : RattleType) (laws : Laws T) (g : declared.Ghosts T.Denot) (d : Dic
   abbrev lawful : {M : Type 1} {𝓤 : Ura M} (𝓛 : Logic 𝓤) → Lawfuls 𝓛 (rows_of members)
   lawful 𝓛 =
       let each = inside-laws.the_loose Kept g (param_laws 0 T laws) in
-      (each.0.lawful 𝓛, (each.1.0.lawful 𝓛, (each.1.1.0.lawful 𝓛, (each.1.1.1.0.lawful 𝓛, tt))))
+      (each.0.lawful 𝓛, (each.1.0.lawful 𝓛, (each.1.1.0.lawful 𝓛, (each.1.1.1.0.lawful 𝓛, (each.1.1.1.1.0.lawful 𝓛, tt)))))
 
 module _ (T : RattleType) (laws : Laws T) (g : declared.Ghosts T.Denot) (d : Dict)
     {M : Type 1} {𝓤 : Ura M} (𝓛 : Logic 𝓤) (at : Memory → SProp 𝓤) (run : Routine → Fun 𝓤) where
@@ -176,8 +182,11 @@ module _ (T : RattleType) (laws : Laws T) (g : declared.Ghosts T.Denot) (d : Dic
       abbrev failed_in : Fml
       failed_in = part_at builtin.bool full_share a.is_failed b (o + failed_at T laws g d)
 
+      abbrev counted_in : Fml
+      counted_in = part_at builtin.u64 full_share a.erasures b (o + counted_at T laws g d)
+
       abbrev Rest : SProp 𝓤
-      Rest = sep 𝓤 (sem 𝓛 scanner_in) (sep 𝓤 (sem 𝓛 failed_in) Back)
+      Rest = sep 𝓤 (sem 𝓛 scanner_in) (sep 𝓤 (sem 𝓛 failed_in) (sep 𝓤 (sem 𝓛 counted_in) Back))
 
       apart : ent 𝓤 (sem 𝓛 (part_at I full_share a b o))
           (sep 𝓤 (sem 𝓛 (part_at S full_share a.screen b s))
@@ -187,10 +196,11 @@ module _ (T : RattleType) (laws : Laws T) (g : declared.Ghosts T.Denot) (d : Dic
           let shown = part_at S full_share a.screen b s in
           let called = part_at C full_share a.callbacks b h in
           qed 𝓛 (‵ (part_at I full_share a b o) ∷ []) ∵
-          use1 𝓛 (‵ (fsep scanner_in (fsep shown (fsep called (fsep failed_in ftrue)))) ⊛ raw Back)
+          use1 𝓛 (‵ (fsep scanner_in (fsep shown (fsep called (fsep failed_in (fsep counted_in ftrue))))) ⊛ raw Back)
           (Struct-parts 𝓛 full_share [] (members T laws g d) (lawful T laws g d 𝓛) (values T laws g d a) b o) $
           split ! $
-          fsplit3 ! $ move ! (2 ∷ []) $ fsplit3 ! $ keep ! (4 ∷ 0 ∷ 3 ∷ 1 ∷ 5 ∷ []) $ done !
+          fsplit3 ! $ move ! (2 ∷ []) $ fsplit3 ! $ move ! (2 ∷ []) $ fsplit ! $
+          keep ! (5 ∷ 2 ∷ 4 ∷ 3 ∷ 0 ∷ 6 ∷ []) $ done !
 
       back : view T laws g d a ≡ x → (w : S.Denot) (v : C.Denot)
           → ent 𝓤 (sep 𝓤 (sem 𝓛 ((mem S).own_at w b s)) (sep 𝓤 (sem 𝓛 ((mem C).own_at v b h)) Rest))
@@ -204,10 +214,11 @@ module _ (T : RattleType) (laws : Laws T) (g : declared.Ghosts T.Denot) (d : Dic
           let way = λ (z : Denots (rows_of (members T laws g d))). wand 𝓤
           (sem 𝓛 (parts_at full_share (members T laws g d) 0 z b o)) (sem 𝓛 (whole z)) in
           qed 𝓛
-          (‵ (part_at S full_share w b s) ∷ ‵ (part_at C full_share v b h) ∷ ‵ scanner_in ∷ ‵ failed_in ∷ raw Back ∷ [])
+          (‵ (part_at S full_share w b s) ∷ ‵ (part_at C full_share v b h) ∷ ‵ scanner_in ∷ ‵ failed_in ∷ ‵ counted_in
+          ∷ raw Back ∷ [])
           ∵
           use0 𝓛 (‵ ftrue) (id⊢ 𝓤 (emp 𝓤)) $
-          move ! (4 ∷ 0 ∷ []) $ fjoin ! $ move ! (2 ∷ 0 ∷ []) $ fjoin ! $
+          move ! (5 ∷ 0 ∷ []) $ fjoin ! $ move ! (4 ∷ 0 ∷ []) $ fjoin ! $ move ! (2 ∷ 0 ∷ []) $ fjoin ! $
           move ! (1 ∷ 0 ∷ []) $ fjoin ! $ move ! (1 ∷ 0 ∷ []) $ fjoin ! $
           move ! (1 ∷ []) $ use1 𝓛 (raw (way (values T laws g d t))) (all_e 𝓤 way (values T laws g d t)) $
           move ! (1 ∷ 0 ∷ []) $

@@ -12,6 +12,7 @@ use Rattle.std_alloc.proofs.SendSync.{quiet, lies}
 use Rattle.std.proofs.Crossing as crossing
 use Rattle.std.proofs.MapsCrossing as maps
 use Rattle.vt_rows.proofs.capture.state.BasicFormattedCaptureState.TheSendSync as capture
+use Rattle.vt_charsets.proofs.charsets.Charsets.TheSendSync as charsets
 use Rattle.vt_screen.proofs.screen.Screen.TheSendSync as screen
 use Rattle.vt100.proofs.parser.Parser.TheSendSync as parser
 use Rattle.vt_mirror.proofs.Sharing.{mirror_send}
@@ -28,6 +29,7 @@ ruleset object_crosses = (
   screen.the_send,
   events.the_send,
   capture.the_send,
+  charsets.the_send,
   mirror_send,
 )
 

@@ -1,0 +1,2 @@
+-- Chains of screens on every terminal
+pub mod Chains

@@ -1,0 +1,13 @@
+//! Rows in packed form, which take about as much memory as their text.
+#![tactic(auto)]
+
+mod basic;
+mod items;
+pub mod laws;
+mod packing;
+mod row;
+mod runs;
+mod texts;
+mod unpacking;
+
+pub use row::PackedRow;
