@@ -15,6 +15,9 @@ from wasm_module import Module, refuse
 # An expression that is longer is stored in a variable.
 LONGEST = 160
 
+# The first value of a local.
+ZEROS = {kind: "v_const(0, 0)" if kind == V128 else "0" for kind in C_TYPES}
+
 
 class Value:
     """A value on the stack: an expression, its type, and the names of the variables that it reads.
@@ -126,8 +129,7 @@ class Function:
     def declarations(self):
         lines = []
         for kind, name in C_TYPES.items():
-            zero = " = v_const(0, 0)" if kind == V128 else " = 0"
-            words = [f"l{k}{zero}" for k in range(self.parameters, len(self.kinds))
+            words = [f"l{k} = {ZEROS[kind]}" for k in range(self.parameters, len(self.kinds))
                      if self.kinds[k] == kind and k not in self.copies]
             for first in range(0, len(words), 12):
                 lines.append(f"  {name} " + ", ".join(words[first:first + 12]) + ";")
@@ -297,7 +299,8 @@ class Function:
         self.do_br(len(self.blocks) - 1)
 
     def do_unreachable(self):
-        self.emit("trap();")
+        """Traps. A compiler that does not know that this ends the program wants a result all the same."""
+        self.emit("trap();" if self.result is None else f"trap(); return {ZEROS[self.result]};")
         self.skip_dead_code()
 
     def do_nop(self):

@@ -120,7 +120,7 @@ class All(unittest.TestCase):
         self.assertEqual(self.ran()[0], 0)
 
     def test_the_gate_runs_all_tests(self):
-        self.assertRegex(read(f"{ROOT}/.ci/run"), r"/tests/all\"\n\Z")
+        self.assertRegex(read(f"{ROOT}/.ci/run"), r"/tests/all\" --complete\n\Z")
 
 
 class Limits(unittest.TestCase):

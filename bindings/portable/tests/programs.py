@@ -330,6 +330,15 @@ CONTROL = {
         local.get 0; i64.load 8; i32.const 2
         call helper
         drop""",
+    "results_of_functions_that_end_in_a_trap": """
+        local.get 0
+        local.get 0; i64.load 0
+        call odd_number
+        i64.store 64
+        local.get 0
+        local.get 0; i64.load 0
+        call odd_vector
+        v128.store 80""",
 }
 
 HELPER = """\
@@ -344,6 +353,25 @@ helper:
 \tend_function
 """
 
+ODD = """\
+\t.type odd_{name},@function
+\t.hidden odd_{name}
+odd_{name}:
+\t.functype odd_{name} (i64) -> ({kind})
+\tlocal.get 0
+\ti32.wrap_i64
+\ti32.const 1
+\ti32.and
+\tif
+\tlocal.get 0
+{conversion}\treturn
+\tend_if
+\tunreachable
+\tend_function
+"""
+ODD_FUNCTIONS = ODD.format(name="number", kind="i64", conversion="") \
+    + ODD.format(name="vector", kind="v128", conversion="\ti32.wrap_i64\n\ti8x16.splat\n")
+
 
 def each_control():
     for name, text in CONTROL.items():
@@ -353,4 +381,4 @@ def each_control():
 def known(rng):
     """Returns functions for all instructions that the translator knows."""
     return IMPORTED + "".join([*each_form(), *each_access(), *each_constant(rng), *each_memory(), *each_data(), HELPER,
-                               *each_control()]) + DATA
+                               ODD_FUNCTIONS, *each_control()]) + DATA
