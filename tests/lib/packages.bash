@@ -219,7 +219,7 @@ vendor() {
 }
 
 # replaces_crate: whether a project that has locked the original crate, which a dependency needs, too, runs with the
-# package after the steps in README.md.
+# package after the steps in bindings/rust/README.md.
 replaces_crate() {
   mkdir -p patched/src patched/.cargo && cd patched || return
   vendor vt100 "$crate" '' '' && vendor middle 1.0.0 'vt100 = "0.18"' 'pub use vt100::Parser;' || return
@@ -228,7 +228,7 @@ replaces_crate() {
     $'middle = "1"\nvt100 = "0.18"\n[workspace]' >Cargo.toml
   sed 's/vt100::Parser::default/middle::Parser::default/' "$root/bindings/rust/examples/synopsis.rs" >src/main.rs
   cargo generate-lockfile --quiet --offline && grep -x "version = \"$crate\"" Cargo.lock || return
-  sed -n '/^\[patch.crates-io\]$/,/^```$/p' "$root/README.md" | grep -v '^```' | sed "s|\"vt100-|\"../vt100-|" >>Cargo.toml
+  sed -n '/^\[patch.crates-io\]$/,/^```$/p' "$root/bindings/rust/README.md" | grep -v '^```' | sed "s|\"vt100-|\"../vt100-|" >>Cargo.toml
   cargo update --quiet --offline -p vt100 && cargo run --quiet --offline && ! grep -x "version = \"$crate\"" Cargo.lock
 }
 
