@@ -163,6 +163,17 @@ class Compression(unittest.TestCase):
         message = bytes(range(33, 127))
         self.assertEqual(sockets.frame(message, True)[:2], bytes((0x82, len(message))))
 
+    def test_frames_are_kept_up_to_a_number_of_bytes(self):
+        sockets = WebSockets()
+        for number in range(100):
+            message = b"D%d" % number + bytes(100000)
+            frame = sockets.frame(message, False)
+            self.assertIs(sockets.frame(message, False), frame)
+        # A message and its frame count.
+        self.assertLessEqual(sockets.frame.cache_info().currsize * 200000, (1 << 22) + 200000)
+        first, _ = (sockets.frame(message, False) for message in (b"Dfirst", b"Dsecond"))
+        self.assertIs(sockets.frame(b"Dfirst", False), first)
+
     def test_smaller_windows_are_refused(self):
         async def check():
             async with Shared(ECHO) as shared:
