@@ -25,6 +25,9 @@ except ImportError:
 
 TOKEN = "the-token-of-the-relays"
 
+#: A program that writes what it reads.
+CAT = ["sh", "-c", "stty -echo; exec cat"]
+
 
 def needs_redis(test):
     """Leaves out a test that needs Redis, its package and that of the server."""
@@ -177,3 +180,18 @@ async def until(condition, seconds=20):
         if time.monotonic() > end:
             raise AssertionError("waited in vain")
         await asyncio.sleep(0.02)
+
+
+class Case(unittest.TestCase):
+    """Tests that compare the screens of viewers with that of the program's server."""
+
+    def assert_same(self, viewer, shared):
+        """Compares the screen of a viewer with that of the program's server."""
+        self.assertEqual(screen_of(viewer.parser), screen_of(shared.share.cohort.parser))
+
+    async def until_same(self, viewer, shared):
+        """Reads messages until the viewer has the server's screen, and is not stale."""
+        parser = shared.share.cohort.parser
+        while viewer.parser is None or viewer.is_stale or viewer.parser != parser:
+            await within(20, viewer.next())
+        self.assert_same(viewer, shared)

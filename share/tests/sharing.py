@@ -7,6 +7,7 @@ import random
 import socket
 import struct
 import unittest
+import zlib
 
 import vt100
 from vt100_share._program import Program
@@ -17,6 +18,7 @@ from vt100_share._viewers import Tokens
 
 try:
     from websockets import client as sockets
+    from websockets.extensions.permessage_deflate import ClientPerMessageDeflateFactory
     from websockets.uri import parse_uri
 except ImportError:
     sockets = None
@@ -30,6 +32,13 @@ SESSION = os.path.join(CHECKOUT, "crates", "example_cast", "stdin")
 MODULE = os.environ.get("VT100_WASM") or os.path.join(CHECKOUT, "bindings", "js", "vt100.wasm")
 
 PAGE = {"/": ("text/html", b"page")}
+
+# A program whose output is its input. Its title says when the terminal itself no longer echoes.
+ECHO = ["sh", "-c", "stty -echo raw; printf '\\033]2;ready\\007'; exec cat"]
+
+#: Opcodes of frames, and the bit of one that is compressed.
+CONTINUATION, TEXT, BINARY, CLOSE, PING, PONG = 0, 1, 2, 8, 9, 10
+COMPRESSED = 0x40
 
 
 def python_path(*more):
@@ -75,6 +84,12 @@ def frame(kind, data, is_last=True, length=None):
         length = bytes([0x80 | count]) if count < 126 else struct.pack(">BH", 0xFE, count)
     masked = bytes(byte ^ mask[at % 4] for at, byte in enumerate(data))
     return bytes([kind | (0x80 if is_last else 0)]) + length + mask + masked
+
+
+def packed(data):
+    """Returns a compressed message (RFC 7692, section 7.2.1)."""
+    deflate = zlib.compressobj(wbits=-15)
+    return (deflate.compress(data) + deflate.flush(zlib.Z_SYNC_FLUSH))[:-4]
 
 
 def scrollback_of(screen):
@@ -265,6 +280,14 @@ class Client(Terminal):
         self.writer.close()
 
 
+class Compressing(Client):
+    """A viewer that asks for compression."""
+
+    def __init__(self, port, **how):
+        super().__init__(port)
+        self.protocol.available_extensions = [ClientPerMessageDeflateFactory(**how)]
+
+
 async def slow(port):
     """Returns the streams of a connection with little room for what arrives."""
     one = socket.socket()
@@ -308,3 +331,9 @@ class Shared:
     def contents(self):
         """The redraw and the input modes of the server's screen."""
         return self.share.cohort.parser.state_formatted()
+
+
+async def ready(shared):
+    """Waits until the terminal of ECHO no longer echoes."""
+    while shared.share.title != b"ready":
+        await asyncio.sleep(0.01)

@@ -1,17 +1,19 @@
 """Tests of the terminal in which vt100-share was started: its keys, its size, the line that a key
 opens, and what it shows while it is busy."""
 
+import asyncio
 import json
 import os
 import re
 import shutil
+import socket
 import subprocess
 import sys
 import time
 import unittest
 
 import vt100
-from sharing import needs_websockets
+from sharing import Client, needs_websockets
 from test_cohort import NARROWED
 from test_program import SHARE, Run
 from vt100.testing import Terminal
@@ -298,6 +300,25 @@ class Output(Started):
         terminal.send("\r")
         terminal.wait_for("cd")
         self.assertEqual(setups.count, before + 1)
+
+
+@needs_websockets
+class Lingering(Started):
+    async def _watch(self, port, token):
+        viewer = await Client(port).open(token)
+        await viewer.until_end()
+        viewer.close()
+        await viewer.writer.wait_closed()
+
+    def test_viewers_who_join_after_the_end_leave_the_terminal_alone(self):
+        with socket.create_server(("127.0.0.1", 0)) as one:
+            port = one.getsockname()[1]
+        token = self.environment["VT100_SHARE_READ"] = "r" * 20
+        terminal = self.start_here("--port", str(port), "--linger", "5", "--", "true")
+        time.sleep(1)
+        asyncio.run(self._watch(port, token))
+        screen = terminal.wait_for("the program has ended with status 0")
+        self.assertNotIn("internal error", screen.contents())
 
 
 @needs_websockets

@@ -17,8 +17,7 @@ import threading
 import time
 import unittest
 
-from sharing import Client, needs_websockets, python_path
-from test_server import BINARY, frame
+from sharing import BINARY, Client, frame, needs_websockets, python_path
 from vt100.testing import Terminal
 from vt100_share.__main__ import _size as size_of
 

@@ -178,6 +178,7 @@ class Errors(unittest.TestCase):
             (response("unknown command, with args beginning with: 'hidden'"), "ResponseError"),
             (response("Hidden"), "ResponseError"),
             (relaying.redis.ConnectionError("a\x1b[31mb\nc"), "a[31mb"),
+            (relaying.redis.ConnectionError("Connection closed by server."), "Connection closed by server"),
             (OSError(5, "no route" + "x" * 300), "[Errno 5] no route" + "x" * 182),
             (EOFError(), "EOFError"),
             (asyncio.TimeoutError(), "TimeoutError"),

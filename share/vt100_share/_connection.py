@@ -162,7 +162,8 @@ class Connection(asyncio.Protocol):
                 self._take(frame)
             self._is_plain = length > 0
             data = data[length:]
-        self._read_by_protocol(data)
+        if data:
+            self._read_by_protocol(data)
 
     def _read_by_protocol(self, data: bytes) -> None:
         for at in range(0, len(data), _PART):

@@ -108,8 +108,10 @@ class Display:
 
     def show(self) -> None:
         """Displays the present screen, unless the terminal is still busy with an older one."""
+        if self._is_gone:
+            return
         self._is_behind = True
-        if not self._unsent and not self._is_gone:
+        if not self._unsent:
             self._unsent += self._update()
         self._write()
 
@@ -188,7 +190,7 @@ class Display:
 
     def _resume(self) -> None:
         """Reads again what is typed, once the program reads it."""
-        if self._is_gone or self._file < 0:
+        if self._is_gone:
             return
         if self._typing.has_room:
             self._loop.add_reader(self._file, self._read)
@@ -247,7 +249,7 @@ class Display:
         if self._key_timer is not None:
             self._key_timer.cancel()
         os.close(self._file)
-        self._file = -1
+        self._is_gone = True
         with contextlib.suppress(OSError, termios.error):  # if the terminal has been closed
             termios.tcsetattr(0, termios.TCSAFLUSH, self._settings)
             sys.stdout.write(TERMINAL_RESTORE + _LEAVE)

@@ -43,18 +43,14 @@ class Rows:
     def __init__(self, limit: int) -> None:
         self.limit = limit
         self._rows: List[Row] = []
-        self._first = 0
+        #: The number of the first row that is kept.
+        self.first = 0
         self._parts: Dict[Optional[int], Part] = {}
-
-    @property
-    def first(self) -> int:
-        """The number of the first row that is kept."""
-        return self._first
 
     @property
     def end(self) -> int:
         """The number of the next row that scrolls off."""
-        return self._first + len(self._rows)
+        return self.first + len(self._rows)
 
     def take(self, parser: Parser) -> None:
         """Takes rows from the parser of the screen."""
@@ -64,13 +60,13 @@ class Rows:
         self._rows += rows
         excess = max(0, len(self._rows) - self.limit)
         del self._rows[:excess]
-        self._first += excess
+        self.first += excess
         self._parts.clear()
 
     def discard(self) -> None:
         """Discards all rows."""
         # The number that is skipped tells viewers that rows are missing.
-        self._first = self.end + 1
+        self.first = self.end + 1
         self._rows.clear()
         self._parts.clear()
 
@@ -89,25 +85,25 @@ class Rows:
     def newest(self, number: Optional[int]) -> Part:
         """Returns the newest of the rows from `number` on, or of all rows, that fit into a
         message."""
-        first = self._first if number is None else max(number, self._first)
+        first = self.first if number is None else max(number, self.first)
         begin, length = self.end, 0
         while begin > first and length < CHUNK and self._has_width_of_last(begin - 1):
             begin -= 1
-            length += len(self._rows[begin - self._first].text)
-        return Part(messages.history(begin, self._rows[begin - self._first :]), self.end)
+            length += len(self._rows[begin - self.first].text)
+        return Part(messages.history(begin, self._rows[begin - self.first :]), self.end)
 
     def _has_width_of_last(self, number: int) -> bool:
-        return self._rows[number - self._first].cols == self._rows[-1].cols
+        return self._rows[number - self.first].cols == self._rows[-1].cols
 
     def after(self, number: Optional[int], size: int) -> Tuple[int, List[Row]]:
         """Returns the rows from `number` on, or from the first one if `number` is None, that begin
         within `size` bytes, and the number of the first of them."""
-        begin = end = self._first if number is None else max(number, self._first)
+        begin = end = self.first if number is None else max(number, self.first)
         length = 0
         while end < self.end and length < size:
-            length += len(self._rows[end - self._first].text)
+            length += len(self._rows[end - self.first].text)
             end += 1
-        return begin, self._rows[begin - self._first : end - self._first]
+        return begin, self._rows[begin - self.first : end - self.first]
 
 
 class History(Rows):

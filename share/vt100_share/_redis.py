@@ -125,7 +125,7 @@ def text_of(redis: Redis, error: BaseException) -> str:
     screen: the line has only its first word if that is a code, such as NOREPLICAS."""
     name, text = type(error).__name__, str(error).strip()
     if isinstance(error, redis.local_errors) and text:
-        line = "".join(filter(str.isprintable, text.splitlines()[0]))
+        line = "".join(filter(str.isprintable, text.splitlines()[0])).rstrip(".")
         return f"{redis.label}: {line[:_MAX_TEXT]}"
     code = _CODE.match(text.rpartition(" of pipeline caused error: ")[2])
     return f"{redis.label}: {name}" + (f": {code[1]}" if code else "")

@@ -7,6 +7,7 @@ import gzip
 import hashlib
 import ipaddress
 import os
+import pathlib
 import re
 from typing import Any, Dict, List, NamedTuple, Optional, Tuple
 from urllib.parse import urlsplit
@@ -102,17 +103,12 @@ def page_files(folder: Optional[str]) -> Dict[str, Tuple[str, bytes]]:
 
 
 def _files_below(place: str) -> Dict[str, Tuple[str, bytes]]:
-    return {path: file for part in _PARTS for path, file in _files_in(place, part).items()}
-
-
-def _files_in(place: str, part: str) -> Dict[str, Tuple[str, bytes]]:
     found = {}
-    folder = os.path.join(place, part)
-    for name in sorted(os.listdir(folder)) if os.path.isdir(folder) else []:
-        kind = _TYPES.get(os.path.splitext(name)[1])
-        if kind is not None:
-            with open(os.path.join(folder, name), "rb") as file:
-                found["/" + (f"{part}/{name}" if part else name)] = kind, file.read()
+    for part in _PARTS:
+        for path in pathlib.Path(place, part).glob("*"):
+            if path.suffix in _TYPES:
+                name = path.relative_to(place).as_posix()
+                found[f"/{name}"] = _TYPES[path.suffix], path.read_bytes()
     return found
 
 

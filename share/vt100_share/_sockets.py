@@ -3,11 +3,12 @@ connections and tasks."""
 
 from __future__ import annotations
 
+import functools
 import importlib
 import logging
 import re
 import zlib
-from typing import Any, Callable, Dict, Generator, List, Optional, Tuple
+from typing import Any, Callable, Generator, List, Optional, Tuple
 
 from . import _messages as messages
 from ._site import Response
@@ -132,8 +133,9 @@ class WebSockets:
         self.ping: bytes = self._frames.Frame(opcodes.PING, b"").serialize(mask=False)
         self._response: Any = library(".http11").Response
         self._headers: Any = library(".datastructures").Headers
-        self._made: Tuple[Dict[bytes, bytes], Dict[bytes, bytes]] = {}, {}
         self._made_len = 0
+        #: Returns the frame of a message, compressed or not. It is made once for all viewers.
+        self.frame = functools.lru_cache(maxsize=None)(self._counted_frame)
 
     def protocol(self) -> Any:
         """Returns a protocol for a new connection."""
@@ -210,16 +212,14 @@ class WebSockets:
             raise Malformed() from None
         return "Sec-WebSocket-Extensions" in response.headers
 
-    def frame(self, message: bytes, is_compressed: bool) -> bytes:
-        """Returns the frame of a message, compressed or not. It is made once for all viewers."""
-        made = self._made[is_compressed].get(message)
-        if made is None:
-            if self._made_len > _MAX_FRAMES:
-                self._made = {}, {}
-                self._made_len = 0
-            made = self._made[is_compressed][message] = self._frame(message, is_compressed)
-            self._made_len += len(message) + len(made)
-        return made
+    def _counted_frame(self, message: bytes, is_compressed: bool) -> bytes:
+        """Returns the frame of a message. Has earlier ones forgotten if they are too long."""
+        if self._made_len > _MAX_FRAMES:
+            self.frame.cache_clear()
+            self._made_len = 0
+        frame = self._frame(message, is_compressed)
+        self._made_len += len(message) + len(frame)
+        return frame
 
     def _frame(self, message: bytes, is_compressed: bool) -> bytes:
         frame = self._frames.Frame(self._frames.Opcode.BINARY, message)

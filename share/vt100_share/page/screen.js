@@ -79,8 +79,8 @@ export class SharedScreen {
     this.#view.requestDraw();
   }
 
-  /** Adds rows to the scrollback, of a screen with `rowCols` columns. If `number` is not that of the next row, there are rows missing, and the earlier ones
-      are discarded. */
+  /** Adds rows to the scrollback, of a screen with `rowCols` columns. If `number` is not that of the next row, there are
+      rows missing, and the earlier ones are discarded. */
   scrolled(number, count, rowCols, bytes) {
     const parser = this.#parser;
     if (this.#nextRow !== null && number !== this.#nextRow) this.forgetRows();
