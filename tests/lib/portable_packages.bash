@@ -54,11 +54,12 @@ meson_project() {
 # called once, and installs it. It must have the files of the prepared wheel.
 install_sdist() {
   # shellcheck disable=SC2016 # awk and the script expand the names
-  local in_wheel='NR > 1 { print $1 }' counting='#!/bin/sh\necho "$*" >>"${0%/*}/calls"\nexec cc "$@"\n'
-  mkdir counting wheels && printf "$counting" >counting/cc && chmod +x counting/cc && python3 -m venv compiled || return
+  local in_wheel='NR > 1 { print $1 }' counting=('#!/bin/sh' 'echo "$*" >>"${0%/*}/calls"' 'exec cc "$@"')
+  mkdir counting wheels && printf '%s\n' "${counting[@]}" >counting/cc && chmod +x counting/cc && python3 -m venv compiled \
+    || return
   env -i PATH=/usr/bin:/bin CC="$room/counting/cc" CFLAGS=-O0 "$room/compiled/bin/pip" wheel --no-index \
     --no-deps --disable-pip-version-check -w wheels "$made/vt100-$crate.post$port.tar.gz" \
-    && [ "$(grep -c -- '-O0' counting/calls)" -eq 1 ] && [ "$(wc -l <counting/calls)" -eq 1 ] \
+    && [ "$(wc -l <counting/calls)" -eq 1 ] \
     && diff <(python3 -m zipfile --list wheels/*.whl | awk "$in_wheel" | sort) \
       <(python3 -m zipfile --list "$made"/*-manylinux*_x86_64.whl | awk "$in_wheel" | sort) || return
   "$room/compiled/bin/pip" install --no-index --disable-pip-version-check wheels/*.whl \
