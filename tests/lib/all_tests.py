@@ -17,7 +17,7 @@ import time
 
 from gate import Gate, Test, named
 
-CORES = os.cpu_count() or 1
+CORES = len(os.sched_getaffinity(0))
 CHECKS = [
     Test(["tests/wrong-edits", "--fit"]),
     *(Test([f"tests/{name}"]) for name in ("documents", "surface", "trust", "imports", "self")),

@@ -3,13 +3,17 @@
 import collections
 import os
 import re
+import select
 import signal
 import subprocess
 import threading
+import time
 from concurrent.futures import ThreadPoolExecutor
 
 LEFT_OUT = re.compile(r"^left out: (.*)$", re.M)
 COUNTS = re.compile(r"([0-9]+) passed, ([0-9]+) failed")
+# The seconds that a test has to end what it has started, once it is told to end.
+GRACE = 10
 
 # A test: its command, the seconds that it may take, and variables that are added to its environment.
 Test = collections.namedtuple("Test", "words limit env", defaults=(1800, {}))
@@ -26,27 +30,63 @@ def named(test):
 
 
 class Run:
-    """A process that runs a test. It ends, with all processes of its group, after the time limit of the test."""
+    """A process that runs a test. It ends, with all processes of its group, after the time limit of the test.
+
+    It is first told to end, so that a script can end the processes of other groups that it has started.
+    """
 
     def __init__(self, test):
         self.test = test
         self.is_late = False
         self.process = subprocess.Popen(
             test.words, env={**os.environ, **test.env}, stdin=subprocess.DEVNULL, stdout=subprocess.PIPE,
-            stderr=subprocess.STDOUT, encoding="utf-8", errors="replace", start_new_session=True,
+            stderr=subprocess.STDOUT, start_new_session=True,
         )
-        self.clock = threading.Timer(test.limit, self.end_late)
-        self.clock.start()
+        self.clock = self.started(test.limit, self.end_late)
+
+    @staticmethod
+    def started(seconds, action):
+        clock = threading.Timer(seconds, action)
+        clock.daemon = True
+        clock.start()
+        return clock
 
     def end_late(self):
         self.is_late = True
-        self.end()
+        self.clock = self.started(GRACE, self.end)
+        self.send(signal.SIGTERM)
 
     def end(self):
+        self.send(signal.SIGKILL)
+
+    def send(self, number):
+        """Sends a signal to all processes of the group."""
         try:
-            os.killpg(self.process.pid, signal.SIGKILL)
+            os.killpg(self.process.pid, number)
         except ProcessLookupError:
             pass
+
+    def has_ended(self):
+        try:
+            return os.waitid(os.P_PID, self.process.pid, os.WEXITED | os.WNOHANG | os.WNOWAIT) is not None
+        except ChildProcessError:  # `wait` has returned
+            return True
+
+    def lines(self):
+        """Yields the lines of the output, up to its end. A process that the test leaves behind may keep the output
+        open; it then ends with what is there a second after the test.
+        """
+        pipe, rest = self.process.stdout.fileno(), b""
+        while True:
+            has_ended = self.has_ended()
+            data = os.read(pipe, 65536) if select.select([pipe], [], [], 1)[0] else None
+            if data:
+                *whole, rest = (rest + data).split(b"\n")
+                yield from (line.decode("utf-8", "replace") + "\n" for line in whole)
+            elif data == b"" or has_ended:
+                break
+        if rest:
+            yield rest.decode("utf-8", "replace")
 
     def wait(self):
         """Waits for the end of the process. Returns its exit status, or the negative number of the signal that ended
@@ -55,6 +95,7 @@ class Run:
         _, status, usage = os.wait4(self.process.pid, 0)
         self.clock.cancel()
         self.end()
+        self.process.stdout.close()
         self.process.returncode = -os.WTERMSIG(status) if os.WIFSIGNALED(status) else os.WEXITSTATUS(status)
         return self.process.returncode, usage.ru_utime + usage.ru_stime
 
@@ -119,7 +160,7 @@ class Gate:
         except OSError as error:
             return f"{error}\n", 127, False
         self.runs.add(run)
-        for line in run.process.stdout:
+        for line in run.lines():
             lines.append(line)
             show(line)
         status, processor_time = run.wait()
@@ -149,6 +190,11 @@ class Gate:
 
     def end(self):
         """Ends the tests that still run."""
+        for run in [*self.runs]:
+            run.send(signal.SIGTERM)
+        until = time.monotonic() + GRACE
+        while not all(run.has_ended() for run in [*self.runs]) and time.monotonic() < until:
+            time.sleep(0.1)
         for run in [*self.runs]:
             run.end()
 

@@ -50,13 +50,16 @@ meson_project() {
     && builds "$room/meson/prefix"
 }
 
-# install_sdist: builds a wheel from the sdist in an environment that has no other package, with a compiler alone, and
-# installs it. It must have the files of the prepared wheel.
+# install_sdist: builds a wheel from the sdist in an environment that has no other package, with a compiler alone, which is
+# called once, and installs it. It must have the files of the prepared wheel.
 install_sdist() {
-  # shellcheck disable=SC2016 # awk expands the name
-  local in_wheel='NR > 1 { print $1 }'
-  python3 -m venv compiled && mkdir wheels && env -i PATH=/usr/bin:/bin CFLAGS=-O0 "$room/compiled/bin/pip" wheel --no-index \
+  # shellcheck disable=SC2016 # awk and the script expand the names
+  local in_wheel='NR > 1 { print $1 }' counting=('#!/bin/sh' 'echo "$*" >>"${0%/*}/calls"' 'exec cc "$@"')
+  mkdir counting wheels && printf '%s\n' "${counting[@]}" >counting/cc && chmod +x counting/cc && python3 -m venv compiled \
+    || return
+  env -i PATH=/usr/bin:/bin CC="$room/counting/cc" CFLAGS=-O0 "$room/compiled/bin/pip" wheel --no-index \
     --no-deps --disable-pip-version-check -w wheels "$made/vt100-$crate.post$port.tar.gz" \
+    && [ "$(wc -l <counting/calls)" -eq 1 ] \
     && diff <(python3 -m zipfile --list wheels/*.whl | awk "$in_wheel" | sort) \
       <(python3 -m zipfile --list "$made"/*-manylinux*_x86_64.whl | awk "$in_wheel" | sort) || return
   "$room/compiled/bin/pip" install --no-index --disable-pip-version-check wheels/*.whl \

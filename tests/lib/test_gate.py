@@ -4,11 +4,13 @@ import re
 import shutil
 import subprocess
 import tempfile
+import threading
 import time
 import unittest
 
 from gate import Gate, Test, named
 from sources import read
+from test_scripts import has_ended
 
 ROOT = os.path.dirname(os.path.dirname(os.path.dirname(os.path.abspath(__file__))))
 FAKE_RT = """#!/bin/sh
@@ -42,11 +44,11 @@ class All(unittest.TestCase):
             file.write(text if text.startswith("#!") else f"#!/bin/sh\n{text}\n")
         os.chmod(f"{self.room}/{name}", 0o755)
 
-    def output(self, last="7 passed, 0 failed", status="0", words=(), **env):
-        """Returns the status and the output of tests/all."""
+    def output(self, last="7 passed, 0 failed", status="0", words=(), program="tests/all", **env):
+        """Returns the status and the output of tests/all, or of another program."""
         path = f"{self.room}/bin:{os.environ['PATH']}"
         ran = subprocess.run(
-            [f"{self.room}/tests/all", *words],
+            [f"{self.room}/{program}", *words],
             env={**os.environ, "CI": "", "PATH": path, "LAST": last, "STATUS": status, **env}, stdin=subprocess.DEVNULL,
             stdout=subprocess.PIPE, stderr=subprocess.STDOUT, universal_newlines=True, check=False,
         )
@@ -119,8 +121,14 @@ class All(unittest.TestCase):
         self.script("tests/bindings", "command -v dpkg && python3 -c ''")
         self.assertEqual(self.ran()[0], 0)
 
-    def test_the_gate_runs_all_tests(self):
-        self.assertRegex(read(f"{ROOT}/.ci/run"), r"/tests/all\" --complete\n\Z")
+    def test_the_gate_sets_up_and_leaves_nothing_out(self):
+        os.mkdir(f"{self.room}/.ci")
+        shutil.copy(f"{ROOT}/.ci/run", f"{self.room}/.ci")
+        self.script("tests/setup", "echo 'set up'")
+        status, output = self.output(program=".ci/run")
+        self.assertEqual((status, output.startswith("set up\n")), (0, True), output)
+        self.script("tests/bindings", "echo 'left out: no mc'")
+        self.assertEqual(self.output(program=".ci/run")[0], 1)
 
 
 class Limits(unittest.TestCase):
@@ -130,6 +138,35 @@ class Limits(unittest.TestCase):
         self.assertFalse(gate.run(Test(["sh", "-c", "sleep 100 & sleep 100"], 0.5)))
         self.assertLess(time.monotonic() - begun, 50)
         self.assertEqual((gate.passed, gate.failed, gate.status), (0, 1, 1))
+
+    def test_what_a_test_leaves_behind_is_not_waited_for(self):
+        begun = time.monotonic()
+        gate = Gate(time.monotonic)
+        shown = []
+        gate.measured(Test(["sh", "-c", "printf 'one\\ntwo'; setsid sleep 60 &"]), shown.append)
+        self.assertEqual(shown, ["one\n", "two"])
+        self.assertLess(time.monotonic() - begun, 50)
+
+    def test_a_script_that_is_late_ends_its_jobs(self):
+        with tempfile.TemporaryDirectory() as room:
+            job = f"limited sh -c 'echo $$ >{room}/pid; exec sleep 100'"
+            gate = Gate(time.monotonic)
+            self.assertFalse(gate.run(Test(["bash", "-c", f"cd {ROOT} && . tests/lib/tests.bash && {job}"], 2)))
+            self.assertTrue(has_ended(int(read(f"{room}/pid"))))
+
+    def test_the_end_of_the_gate_ends_all_jobs(self):
+        with tempfile.TemporaryDirectory() as room:
+            job = f"limited sh -c 'echo $$ >{room}/pid; exec sleep 100'"
+            gate = Gate(time.monotonic)
+            test = Test(["bash", "-c", f"cd {ROOT} && . tests/lib/tests.bash && {job}"])
+            beside = threading.Thread(target=gate.run, args=[test])
+            beside.start()
+            while not os.path.exists(f"{room}/pid") or not read(f"{room}/pid"):
+                time.sleep(0.05)
+            gate.end()
+            beside.join(50)
+            self.assertFalse(beside.is_alive())
+            self.assertTrue(has_ended(int(read(f"{room}/pid"))))
 
     def test_a_missing_command_fails(self):
         gate = Gate(time.monotonic)

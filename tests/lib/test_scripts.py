@@ -166,6 +166,44 @@ class Node(Scripts):
         self.assertEqual((status, output.rstrip("\n").rpartition("\n")[2][-8:]), (1, "1 failed"), output)
 
 
+FAKE_APT = """#!/bin/sh
+echo "$*" >>{room}/called
+case $* in
+  *indextargets*) [ ! -e {room}/lists ] || echo ORIGIN ;;
+  *update) touch {room}/lists ;;
+  *) exit 1 ;;
+esac
+"""
+
+
+class Setup(Scripts):
+    """Runs tests/setup with an apt-get that only notes how it is called, and with an empty cache."""
+
+    def called(self):
+        self.write("bin/apt-get", FAKE_APT.format(room=self.room))
+        self.write("bin/sudo", '#!/bin/sh\n[ "$1" != -n ] || shift\nexec "$@"\n')
+        env = {**os.environ, "PATH": f"{self.room}/bin:{os.environ['PATH']}", "XDG_CACHE_HOME": f"{self.room}/cache",
+               "VT100_AARCH64_ROOT": f"{self.room}/arm"}
+        ran = subprocess.run([f"{ROOT}/tests/setup"], env=env, stdin=subprocess.DEVNULL, stdout=subprocess.PIPE,
+                             stderr=subprocess.STDOUT, universal_newlines=True, check=False)
+        self.assertEqual(ran.returncode, 1, ran.stdout)
+        self.assertIn(f"setup: no aarch64 system in {self.room}/arm", ran.stdout)
+        return read(f"{self.room}/called").splitlines()
+
+    def is_up_to_date(self, calls):
+        """Returns whether the lists of packages are renewed before anything is downloaded."""
+        words = [next((word for word in ("Architecture=arm64", "download", "update") if word in call), "") for call in calls]
+        return "update" in words and words.index("update") < words.index("Architecture=arm64")
+
+    def test_a_system_without_lists_of_packages(self):
+        self.assertTrue(self.is_up_to_date(self.called()))
+
+    def test_a_system_with_lists_of_packages(self):
+        self.write("lists", "")
+        calls = self.called()
+        self.assertEqual(self.is_up_to_date(calls), any(" install " in call for call in calls if "arm64" not in call))
+
+
 class Packages(Scripts):
     def test_no_programs(self):
         for name in ("run_tools", "describe_tools"):
@@ -175,10 +213,14 @@ class Packages(Scripts):
     def test_programs_that_are_not_built(self):
         self.assertIn("leave_out", read(f"{ROOT}/tests/packages").partition("\ntools=\n")[2].partition("\ndone\n")[0])
 
+    def test_an_option_that_is_not_given(self):
+        text = f"given=/\nmissing=\n{function('tests/packages', 'is_given')}\nis_given given && ! is_given missing"
+        self.assertEqual(self.bash(text), (0, "left out: packages that need the option --missing\n"))
+
     def wheel_shares(self, wasm, status, said):
         """Returns the status of the test of a vt100-share that ends with a status, having written a line."""
         self.write("environment/bin/vt100-share", f"#!/bin/sh\necho '{said}'\nexit {status}\n")
-        return self.bash(f"cd {self.room}; wasm={wasm}\n{function('tests/packages', 'shares')}\nshares")[0]
+        return self.bash(f"cd {self.room}; wasm={wasm}\n{function('tests/lib/python_packages.bash', 'shares')}\nshares")[0]
 
     def test_a_program_that_needs_more(self):
         self.assertEqual(self.wheel_shares("x", 0, "watch: http://127.0.0.1:1/"), 0)
@@ -210,6 +252,15 @@ class Emulated(Scripts):
         status, output = self.bash(text)
         self.assertEqual(status, 0, output)
         self.assertRegex(output, rf"^{words}\Z")
+
+
+class Native(Scripts):
+    def test_libraries_that_were_not_built(self):
+        os.makedirs(f"{self.room}/native/riscv64-linux")
+        text = f"native={self.room}/native\non_target() {{ echo \"on $1\"; }}\n{function('tests/targets', 'in_native')}\nin_native"
+        missing = [f"left out: the library for {name}, which was not built\n"
+                   for name in ("x86_64-windows", "x86_64-macos", "aarch64-macos")]
+        self.assertEqual(self.bash(text), (0, f"{missing[0]}on riscv64-linux\n{missing[1]}{missing[2]}"))
 
 
 class Units(Scripts):

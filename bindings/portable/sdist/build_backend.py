@@ -102,11 +102,27 @@ def _info(tag: str) -> Dict[str, bytes]:
     }
 
 
+def _tag() -> str:
+    """Returns the tag of a wheel for the running system."""
+    return f"py3-none-{_platform()}"
+
+
+def prepare_metadata_for_build_wheel(metadata_directory: str, config_settings: Optional[Dict[str, Any]] = None) -> str:
+    """Writes the metadata of the wheel, and returns the name of their folder. Without them, pip would build the wheel
+    twice, since it reads them first."""
+    name = f"{_full_name()}.dist-info"
+    folder = Path(metadata_directory, name)
+    folder.mkdir(parents=True)
+    for file, data in _info(_tag()).items():
+        (folder / file).write_bytes(data)
+    return name
+
+
 def build_wheel(wheel_directory: str, config_settings: Optional[Dict[str, Any]] = None,
                 metadata_directory: Optional[str] = None) -> str:
     """Builds the wheel for the running system, and returns the name of its file."""
     full_name = _full_name()
-    tag = f"py3-none-{_platform()}"
+    tag = _tag()
     files = _files(ROOT / MODULES)
     files[f"vt100/{LIBRARY}"] = _compile()
     files[f"{full_name}.data/data/share/man/man1/{MANUAL}"] = (ROOT / MANUAL).read_bytes()

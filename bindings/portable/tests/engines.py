@@ -13,8 +13,9 @@ from typing import List, NamedTuple, Optional, Sequence, Tuple
 HERE = Path(__file__).resolve().parent
 PORTABLE = HERE.parent
 BLOCK = 256
-# What a block is after a trap.
+# What a block is after a trap, and what a program in C then writes.
 TRAPPED = b"\xee" * BLOCK
+COMPLAINT = b"vt100: internal error: the library was compiled wrongly, or its memory was changed from outside\n"
 
 BEGINNING = "\t.globaltype __stack_pointer, i64\n\t.globaltype __memory_base, i64, immutable\n"
 FUNCTION = """\
@@ -120,10 +121,13 @@ def in_c(module: Path, names: Sequence[str], blocks: Sequence[bytes], compiler: 
     run([*compiler.command, "-std=c99", "-O2", f"-I{PORTABLE.parent / 'c'}", "run.c", "-o", "program"], folder)
     program = next(path for path in (folder / "program", folder / "program.exe") if path.exists())
     with open(folder / "results", "wb") as results, open(folder / "blocks", "rb") as given:
-        subprocess.run([*compiler.runner, str(program), str(len(blocks))], stdin=given, stdout=results,
-                       stderr=subprocess.DEVNULL, check=True)
+        said = subprocess.run([*compiler.runner, str(program), str(len(blocks))], stdin=given, stdout=results,
+                              stderr=subprocess.PIPE, check=True).stderr
     program.unlink()
-    return _split((folder / "results").read_bytes(), names, blocks)
+    found = _split((folder / "results").read_bytes(), names, blocks)
+    if said != COMPLAINT * sum(after == TRAPPED for _, _, after in found):
+        raise AssertionError(f"other complaints than for each trap: {said[:3000]!r}")
+    return found
 
 
 def names_in(text: str) -> List[str]:

@@ -151,6 +151,14 @@ CONTROL = {
         local.get 1; i32.const 1; i32.add; local.tee 1; local.get 0; i32.load8_u 0; i32.lt_u; br_if 0
         end_loop
         local.get 0; local.get 2; i64.store 64""",
+    "loop_with_a_result": """.local i32
+        local.get 0
+        loop i32
+        local.get 1; i32.const 1; i32.add; local.tee 1
+        local.get 0; i32.load8_u 0; i32.lt_u; br_if 0
+        local.get 1
+        end_loop
+        i32.store 64""",
     "if_result": """
         local.get 0
         local.get 0; i32.load 0
@@ -258,6 +266,15 @@ CONTROL = {
         local.get 0; i32.load 64
         i32.sub
         i32.store 68""",
+    "division_that_is_dropped": """
+        local.get 0; i32.load 0; local.get 0; i32.load 16; i32.div_u; drop
+        local.get 0; i32.const 1; i32.store 64""",
+    # With addresses that C takes for null pointers.
+    "copies_of_nothing": """
+        i64.const 0; i64.const 0; i64.const 0; memory.copy 0, 0
+        i64.const 0; i32.const 1; i64.const 0; memory.fill 0
+        local.get 0; i64.const 0; i64.const 0; i64.const 0; call memcmp; i32.store 64
+        local.get 0; i64.const 0; i64.const 0; i64.const 0; call memmove; i64.store 72""",
     "frame": """.local i64
         global.get __stack_pointer; i64.const 32; i64.sub; local.tee 1; global.set __stack_pointer
         local.get 1; local.get 0; i64.load 0; i64.store 8

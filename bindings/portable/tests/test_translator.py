@@ -1,6 +1,7 @@
 """Tests of the translator from WebAssembly to C: each instruction that it knows, random functions, and what it refuses."""
 import os
 import random
+import re
 import shutil
 import subprocess
 import sys
@@ -15,6 +16,7 @@ import programs  # noqa: E402
 import random_programs  # noqa: E402
 import instructions  # noqa: E402
 import wasm_module  # noqa: E402
+import wasm_to_c  # noqa: E402
 
 SEED = int(os.environ.get("VT100_SEED", "1"))
 RANDOM_FUNCTIONS = int(os.environ.get("VT100_RANDOM_FUNCTIONS", "40"))
@@ -24,6 +26,7 @@ SANITIZED = ["-w", "-fsanitize=undefined", "-fno-sanitize-recover"]
 NATIVE = {
     "cc": engines.Compiler(["cc", *STRICT]),
     "cc without vectors": engines.Compiler(["cc", *STRICT, "-DVT100_NO_VECTORS"]),
+    "cc with UBSan": engines.Compiler(["cc", *SANITIZED]),
     "clang": engines.Compiler(["clang", *STRICT, "-Wno-unused-function"]),
     # A compiler without the functions for bits and vectors that others have.
     "tcc": engines.Compiler(["tcc", "-Wall", "-Werror"]),
@@ -83,7 +86,7 @@ class Equal(TranslatorTest):
         rng = random.Random(SEED)
         text = random_programs.random_functions(rng, RANDOM_FUNCTIONS)
         compilers = {
-            "cc with UBSan": engines.Compiler(["cc", *SANITIZED]),
+            "cc with UBSan": NATIVE["cc with UBSan"],
             "without vectors": engines.Compiler(["cc", "-w", "-DVT100_NO_VECTORS"]),
             "i686": engines.Compiler(["i686-linux-gnu-gcc", "-w"]),
         }
@@ -125,6 +128,17 @@ REFUSED = {
 }
 
 
+# Further functions that are refused for one of these reasons.
+ALSO_REFUSED = [
+    ("a second frame, or one that begins in a block", body(".local i64", "block", *FRAME, "local.set 1", "end_block")),
+    ("a second frame, or one that begins in a block", body(*FRAME, "local.set 0")),
+    ("a copy of the stack pointer in a block", body(".local i64", "global.get __stack_pointer", "local.set 1", "block",
+                                                    "local.get 1", "i64.const 32", "i64.sub", "drop", "end_block")),
+    ("an operation on the stack pointer", body("i64.const 0", "global.get __stack_pointer", "i32.const 1", "i64.select", "drop")),
+    ("an operation on the stack pointer", body("global.get __stack_pointer", "i64.const 0", "i32.const 1", "i64.select", "drop")),
+]
+
+
 class Refused(TranslatorTest):
     """What the translator does not know, it names, and writes nothing."""
 
@@ -136,7 +150,7 @@ class Refused(TranslatorTest):
         return done.stderr
 
     def test_what_is_refused(self):
-        for what, text in REFUSED.items():
+        for what, text in [*REFUSED.items(), *ALSO_REFUSED]:
             with self.subTest(what):
                 self.assertIn(f"not supported: {what}", self.refuse(engines.assemble(text, self.folder)))
 
@@ -190,6 +204,78 @@ class Refused(TranslatorTest):
             self.assertIn("usage: ", done.stderr)
 
 
+def part(number, *bodies):
+    """Returns a section of a module, whose body is short."""
+    data = b"".join(bodies)
+    return bytes([number, len(data)]) + data
+
+
+def word(text):
+    return bytes([len(text)]) + text.encode()
+
+
+def dynamic(size, power):
+    """Returns the section with the size of the static data, and with its alignment as a power of 2."""
+    return part(0, word("dylink.0"), bytes([1, 4, size, power, 0, 0]))
+
+
+def module_of(name, code):
+    """Returns a module with one function and 16 bytes of static data."""
+    return (part(1, b"\1\x60\0\0"), BASES, part(3, b"\1\0"), part(10, bytes([1, len(code) + 1, 0]), code),
+            part(0, word("name"), bytes([1, len(name) + 3, 1, 0]), word(name)), dynamic(16, 3))
+
+
+def stored_address(place, target):
+    """Returns code that stores the address of one place in the static data at another one."""
+    offset = b"\x23\1\x42%c\x7c"
+    return offset % place + offset % target + b"\x37\3\0"
+
+
+# The imported globals, of which the second one is the address of the static data.
+BASES = part(2, b"\2", word("env"), word("__stack_pointer"), b"\3\x7e\1", word("env"), word("__memory_base"), b"\3\x7e\0")
+RELOCATES, CONSTRUCTS = "__wasm_apply_data_relocs", "__wasm_call_ctors"
+MALFORMED = {
+    "the offset of a segment": (BASES, part(11, b"\1\0\x23\0\x0b\1x"), dynamic(16, 3)),
+    "static data outside its array": (BASES, part(11, b"\1\0\x23\1\x0b\2xy"), dynamic(1, 3)),
+    "static data with an alignment of more than 16 bytes": (dynamic(16, 5),),
+    "a memory with another type than that of wasm64": (part(2, b"\1", word("env"), word("memory"), b"\2\0\0"),),
+    "the import GOT.mem.f": (part(2, b"\1", word("GOT.mem"), word("f"), b"\3\x7e\1"),),
+    "the export g, which is not a function": (part(7, b"\1", word("g"), b"\3\0"),),
+    "a type that is not a function": (part(1, b"\1\x50\0\0"),),
+    "a constructor": module_of(CONSTRUCTS, b"\1\x0b"),
+    "a second memory, in f": module_of("f", b"\x23\0\x28\x40\0\0\x1a\x0b"),
+    "code that ends early, in f": module_of("f", b"\1"),
+    "a branch with a result and no other branch, in f": module_of("f", b"\x41\1\x04\x7f\x41\1\x0b\x1a\x0b"),
+}
+
+
+class Malformed(unittest.TestCase):
+    """Modules that wasm-ld does not make."""
+
+    def translate(self, *sections):
+        return wasm_to_c.translated(wasm_module.Module(b"\0asm\1\0\0\0" + b"".join(sections)))[0]
+
+    def test_what_is_refused(self):
+        for what, sections in MALFORMED.items():
+            with self.subTest(what), self.assertRaises(wasm_module.Unsupported) as caught:
+                self.translate(*sections)
+            self.assertEqual(str(caught.exception), what)
+
+    def test_what_is_nearly_refused(self):
+        self.assertIn("sizeof(struct static_data) == 16", self.translate(dynamic(16, 4))[-1])
+        self.translate(BASES, part(11, b"\1\0\x23\1\x0b\2xy"), dynamic(2, 3))
+        self.translate(*module_of(CONSTRUCTS, b"\x0b"))
+
+    def test_addresses_in_static_data(self):
+        code = stored_address(8, 16)
+        self.assertIn("{{8, 16}}", "".join(self.translate(*module_of(RELOCATES, code + b"\x0b"))))
+        others = [stored_address(4, 16), stored_address(8, 17), code[:-2] + b"\3\1", code.replace(b"\x23\1", b"\x23\0", 1),
+                  code.replace(b"\x7c", b"\x7d", 1), code + b"\1"]
+        for other in others:
+            with self.subTest(other), self.assertRaisesRegex(wasm_module.Unsupported, "^another address in the static data$"):
+                self.translate(*module_of(RELOCATES, other + b"\x0b"))
+
+
 class Interface(TranslatorTest):
     """The functions of a header."""
 
@@ -221,6 +307,42 @@ class Interface(TranslatorTest):
         self.assertIn("return (vt100_status)w_vt100_f(address_of(handle), address_of(bytes), len);", text)
         self.assertIn("    w_vt100_g(address_of(handle));", text)
         self.assertIn("return (uint8_t)w_vt100_h();", text)
+
+    def test_how_each_kind_of_parameter_is_converted(self):
+        self.write("vt100_status vt100_f(vt100_handle *one, vt100_handle *two, vt100_state *state, uint16_t *rows,\n"
+                   "    uint64_t *viewer, size_t *ends, size_t room, uint8_t *flag);\nvoid vt100_g(vt100_handle *one);\n")
+        text = (self.folder / "out.c").read_text(encoding="utf-8")
+        first, second = re.findall(r"^#else\n(.*?)^#endif$", text, re.M | re.S)
+        self.assertEqual([line.strip() for line in first.splitlines()], CONVERTED)
+        self.assertEqual([line.strip() for line in second.splitlines()],
+                         [*CONVERTED[:3], "w_vt100_g(at_one);", "one->at = at_address(load64(at_one));"])
+
+
+# The body of a function with parameters of each kind, for a host whose memory has another form.
+CONVERTED = """\
+complete_static_data();
+struct number in_one;
+u64 at_one = pass_number(&in_one, address_of(one->at));
+struct number in_two;
+u64 at_two = two == one ? at_one : pass_number(&in_two, address_of(two->at));
+struct state in_state;
+u64 at_state = pass_state(&in_state);
+struct number in_rows;
+u64 at_rows = pass_number(&in_rows, *rows);
+struct number in_viewer;
+u64 at_viewer = pass_number(&in_viewer, *viewer);
+struct ends in_ends = make_ends(at_one, room);
+if (!in_ends.is_made) return VT100_OUT_OF_MEMORY;
+vt100_status result = (vt100_status)w_vt100_f(at_one, at_two, at_state, at_rows, at_viewer, address_of(in_ends.at), room, \
+address_of(flag));
+one->at = at_address(load64(at_one));
+two->at = at_address(load64(at_two));
+if (result == VT100_OK) take_state(state, at_state);
+*rows = (uint16_t)load16(at_rows);
+*viewer = (uint64_t)load64(at_viewer);
+take_ends(ends, &in_ends, result == VT100_OK);
+return result;
+""".splitlines()
 
 
 if __name__ == "__main__":

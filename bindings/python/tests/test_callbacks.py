@@ -212,14 +212,14 @@ class Order(unittest.TestCase):
 
 
 class Lost(unittest.TestCase):
-    def test_lost_events_are_reported_after_the_others(self):
+    def losing(self, data, loses_all):
+        """Returns a parser that has processed bytes, and its calls. An event is lost when events are first requested, or all
+        that the library then has."""
         log = Log()
         parser = vt100.Parser(3, 10, callbacks=log)
         library, was_asked = vt100.parser.library, []
 
         class Losing:
-            """The library, except that an event is lost when events are first requested."""
-
             def __getattr__(self, name):
                 return getattr(library, name)
 
@@ -227,14 +227,22 @@ class Lost(unittest.TestCase):
                 status = library.vt100_events(handle, length, is_whole)
                 if not was_asked:
                     is_whole._obj.value = 0
+                    length._obj.value *= not loses_all
                 was_asked.append(True)
                 return status
 
         with mock.patch.object(vt100.parser, "library", Losing()):
-            parser.process(b"\x07a\x07b")
+            parser.process(data)
+        return parser, log.calls
+
+    def test_lost_events_are_reported_after_the_others(self):
+        parser, calls = self.losing(b"\x07a\x07b", False)
         bell = ("audible_bell",)
-        self.assertEqual(log.calls, [bell, ("events_lost",), bell])
+        self.assertEqual(calls, [bell, ("events_lost",), bell])
         self.assertEqual(parser.contents(), "ab")
+
+    def test_lost_events_without_others_are_reported(self):
+        self.assertEqual(self.losing(b"\x07a", True)[1], [("events_lost",)])
 
 
 class Changes(unittest.TestCase):

@@ -70,6 +70,7 @@ class Keys(unittest.TestCase):
             ("shift-tab", b"\x1b[Z"),
             ("alt-enter", b"\x1b\r"),
             ("ctrl-space", b"\0"),
+            ("ctrl-alt-space", b"\x1b\0"),
             ("alt-backspace", b"\x1b\x7f"),
         ):
             self.assertEqual(key_bytes(key, False), sent, key)

@@ -281,6 +281,15 @@ fn each_row_of_a_large_screen_is_reported() {
 }
 
 #[test]
+fn a_long_title_is_passed_on_whole() {
+    let title = "title ".repeat(50_000);
+    let mut parser = Parser::new_with_callbacks(size(1), size(5), 0, Calls::default());
+    parser.process(format!("\x1b]2;{title}\x07\x07").as_bytes());
+    let calls = [format!("title {title} \"\""), "bell (0, 0)".to_owned()];
+    assert!(parser.callbacks().0 == calls);
+}
+
+#[test]
 fn a_copied_capture_goes_on_by_itself() {
     let mut parser = Parser::new(size(1), size(8), 0);
     parser.process(b"\x1b[1mx");
