@@ -100,7 +100,7 @@ class ScrolledRow {
  * all rows: no callbacks are invoked for other events between them. Stores titles in `titles`.
  */
 export function eventsIn(log, screen, titles) {
-  const events = [], view = new DataView(log.buffer), texts = new RowTexts(log);
+  const events = [], view = new DataView(log.buffer, log.byteOffset, log.length), texts = new RowTexts(log);
   let rows = null;
   for (let at = 0; at < log.length; ) {
     const kind = log[at], start = at + TEXT, end = start + wordOf(view, at + LENGTH);

@@ -6,6 +6,9 @@ import { Guard } from "./guard.js";
 /** The number of bytes that every call may use for its input and output. */
 export const ROOM = 65536;
 
+/** The number of bytes of an array that small copies of the memory share. Making an array takes longer than copying a log. */
+const COPIES_SIZE = 65536;
+
 const RESULTS_SIZE = 64;
 const HANDLE_SIZE = 8;
 
@@ -47,6 +50,9 @@ export function bytesOf(data) {
  * `check` or `renew`.
  */
 export class Instance {
+  #copies = new Uint8Array(0);
+  #copiesLen = 0;
+
   constructor(exports) {
     const guard = new Guard(exports);
     this.library = guard.functions;
@@ -109,6 +115,18 @@ export class Instance {
     } finally {
       this.release(at);
     }
+  }
+
+  /** Returns a copy of `count` bytes of the memory, which stays as it is. Small copies share an array. */
+  copyOf(at, count) {
+    if (count > COPIES_SIZE / 4) return this.bytes.slice(at, at + count);
+    if (this.#copiesLen + count > this.#copies.length) {
+      this.#copies = new Uint8Array(COPIES_SIZE);
+      this.#copiesLen = 0;
+    }
+    const copy = this.#copies.subarray(this.#copiesLen, (this.#copiesLen += count));
+    copy.set(this.bytes.subarray(at, at + count));
+    return copy;
   }
 
   /** Returns the pointer to a new empty handle. */

@@ -141,9 +141,9 @@ export class Parser extends Screen {
     const count = instance.word;
     const isWhole = instance.bytes[instance.results + 8] === 1;
     if (count === 0 && isWhole && left === 0) return;
-    const rest = instance.bytes.slice(room + used, room + used + left);
+    const rest = left > 0 ? instance.bytes.slice(room + used, room + used + left) : null;
     if (count > 0 || !isWhole) this.#invoke(this.#takeEvents(count), isWhole);
-    instance.bytes.set(rest, room);
+    if (rest !== null) instance.bytes.set(rest, room);
   }
 
   /** Clears the event log and returns the events that were in it, or null if there is no memory for them. */
@@ -152,7 +152,7 @@ export class Parser extends Screen {
     try {
       return instance.withRoom(count, (at) => {
         instance.library.vt100_copy_events(this._at, BigInt(at), BigInt(count));
-        return eventsIn(instance.bytes.slice(at, at + count), this, this.#titles);
+        return eventsIn(instance.copyOf(at, count), this, this.#titles);
       });
     } catch (error) {
       if (error.status !== OUT_OF_MEMORY) throw error;
