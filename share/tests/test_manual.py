@@ -5,9 +5,11 @@ import os
 import re
 import shutil
 import subprocess
+import sys
 import unittest
 from unittest import mock
 
+import vt100
 from vt100_share import __main__ as program
 
 TESTS = os.path.dirname(os.path.abspath(__file__))
@@ -105,7 +107,7 @@ class Manual(unittest.TestCase):
             values = vars(parser.parse_args(words))
             for option, text in options_of(parser).items():
                 default = re.search(r"\(default: ([^ )]+)\)", text)
-                value = values[option.split()[0][2:]]
+                value = values.get(option.split()[0][2:])
                 value = f"{value:g}" if isinstance(value, float) else str(value)
                 if default is None:
                     self.assertIn(value, ("None", "False", "[]"), option)
@@ -136,6 +138,11 @@ class Manual(unittest.TestCase):
             words = example.split()
             self.assertEqual(words[0], "vt100-share")
             self.assertTrue(program._arguments(words[1:]).command)
+
+    def test_version(self):
+        command = [sys.executable, "-m", "vt100_share", "--version"]
+        done = subprocess.run(command, stdout=subprocess.PIPE, check=True)
+        self.assertEqual(done.stdout.decode(), f"vt100-share {vt100.__version__}\n")
 
     @unittest.skipUnless(shutil.which("man"), "there is no man")
     def test_it_is_formatted_without_warnings(self):

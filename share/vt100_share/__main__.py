@@ -14,6 +14,8 @@ import shlex
 import sys
 from typing import Callable, List, Optional, Tuple
 
+from vt100 import __version__
+
 from ._attach import Refused, attach
 from ._display import is_available, terminal_size
 from ._history import MAX_ROWS as MAX_SCROLLBACK
@@ -93,6 +95,7 @@ def _parser() -> argparse.ArgumentParser:
         help="play N times as fast, from 0.001 to 1000 (default: 1)")
     add("--publish", metavar="URL", help="also publish to relays, through the Redis server at URL")
     _add_stream(parser)
+    add("--version", action="version", version=f"vt100-share {__version__}", help="print the version")
     add("command", nargs="*", metavar="COMMAND", help="the program and its arguments")
     return parser
 
