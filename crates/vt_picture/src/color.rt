@@ -1,6 +1,7 @@
 //! The RGB values of cell colors.
 
-ghost use Rattle.std.specs.Prelude.{◌≡◌, ◌<◌, ◌+◌, ◌*◌, ◌==◌, if◌then◌else◌};
+ghost use Rattle.std.specs.Prelude.{◌≡◌, ◌<◌};
+ghost use Rattle.vt_picture.specs.Colors.{cube_color, level_of, middle_color, palette_color, rgb_of};
 
 use std::fmt;
 use vt100::Color;
@@ -37,7 +38,9 @@ const NAMED: [Rgb; 16] = [
 
 impl Rgb {
     /// Returns the RGB value of a cell's color; `default` is the RGB value of [`Color::Default`].
-    pub fn of(color: Color, default: Rgb) -> Rgb {
+    pub fn of(color: Color, default: Rgb) -> Rgb
+        ensures { result ≡ rgb_of default color }
+    {
         match color {
             Color::Default => default,
             Color::Idx(index) => of_palette(index),
@@ -46,7 +49,9 @@ impl Rgb {
     }
 
     /// Returns the color halfway between `self` and `other`.
-    pub fn mixed(self, other: Rgb) -> Rgb {
+    pub fn mixed(self, other: Rgb) -> Rgb
+        ensures { result ≡ middle_color self other }
+    {
         Rgb(
             self.0.midpoint(other.0),
             self.1.midpoint(other.1),
@@ -64,7 +69,10 @@ impl fmt::Display for Rgb {
 
 /// Returns a color of xterm's palette, which has 16 named colors, a cube with six steps per side,
 /// and 24 grays.
-fn of_palette(index: u8) -> Rgb {
+#[tactic(auto, unfolding(crate::specs::Colors::palette_color))]
+fn of_palette(index: u8) -> Rgb
+    ensures { result ≡ palette_color index }
+{
     match index {
         0..=15 => NAMED[usize::from(index)],
         16..=231 => of_cube(index - 16),
@@ -78,6 +86,7 @@ fn of_palette(index: u8) -> Rgb {
 /// Returns the color at an index in the palette's color cube, in which blue changes fastest.
 fn of_cube(place: u8) -> Rgb
     requires { place < 216 }
+    ensures { result ≡ cube_color place }
 {
     Rgb(level(place / 36), level(place / 6 % 6), level(place % 6))
 }
@@ -85,7 +94,7 @@ fn of_cube(place: u8) -> Rgb
 /// Returns the brightness, from 0 to 255, of a step of the palette's color cube.
 fn level(step: u8) -> u8
     requires { step < 6 }
-    ensures { result ≡ (if step == 0 then 0 else 55 + 40 * step) }
+    ensures { result ≡ level_of step }
 {
     if step == 0 { 0 } else { 55 + 40 * step }
 }

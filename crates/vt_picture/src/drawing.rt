@@ -1,5 +1,8 @@
 //! Drawing a picture of a screen.
 
+ghost use Rattle.std.specs.Prelude.{◌-◌, IfSome, length, slice_get};
+ghost use Rattle.vt_picture.specs.Spots.{IsExtent};
+
 use crate::color::{INK, PAPER};
 use crate::spot::{Mark, Spot, cursor_col, spots_of};
 use std::alloc::{AllocError, Global};
@@ -154,10 +157,20 @@ fn write_style(out: &mut String, spot: &Spot<'_>) -> Result<(), AllocError> {
 }
 
 /// Returns the position and the width of a run, in SVG units.
-fn extent(stretch: &[Spot<'_>]) -> (u32, u32) {
+fn extent(stretch: &[Spot<'_>]) -> (u32, u32)
+    ensures { IfSome (slice_get stretch.now 0) (λ first.
+        IfSome (slice_get stretch.now (length stretch.now - 1)) (λ last. IsExtent first last result)) }
+{
     let (Some(first), Some(last)) = (stretch.first(), stretch.last()) else {
         return (0, 0);
     };
+    extent_between(first, last)
+}
+
+/// Returns the position and the width, in SVG units, of a run that begins with `first` and ends with `last`.
+fn extent_between(first: &Spot<'_>, last: &Spot<'_>) -> (u32, u32)
+    ensures { IsExtent first.now last.now result }
+{
     let begin = u32::from(first.col);
     let cols = last.end().saturating_sub(begin);
     (begin * WIDTH, cols.saturating_mul(WIDTH))

@@ -1,6 +1,8 @@
 //! The contents of a row as glyphs and blanks, each with its position, colors and style.
 
-ghost use Rattle.std.specs.Prelude.{◌≡◌, ◌+◌, ◌<◌, IfSome, None, true};
+ghost use Rattle.std.specs.Prelude.{◌≡◌, ◌+◌, ◌<◌, ◌-◌, ◌&&◌, IfSome, IsAscii, IsSome, IsTrue, None, false, min, not, true};
+ghost use Rattle.vt_cells.specs.Cell.{attrs_of, text_of};
+ghost use Rattle.vt_picture.specs.Spots.{columns_of, covers_column, has_block, has_no_ink, inverted_paint, mark_of, paint_of, paint_on};
 
 use crate::color::{INK, PAPER, Rgb};
 use std::alloc::{AllocError, Global};
@@ -44,7 +46,9 @@ pub enum Mark {
 
 impl Spot<'_> {
     /// Returns whether the spot has nothing that is drawn in the text color.
-    pub fn is_blank(&self) -> bool {
+    pub fn is_blank(&self) -> bool
+        ensures { result ≡ (has_no_ink self.now.text.now && not self.now.paint.underline) }
+    {
         let is_empty = self.text.is_empty() || self.text == " ";
         is_empty && !self.paint.underline
     }
@@ -54,7 +58,11 @@ impl Spot<'_> {
     ///
     /// A glyph outside ASCII may come from a font of a different width and would then shift the
     /// glyphs after it.
-    pub fn goes_on_in(&self, next: &Spot<'_>) -> bool {
+    pub fn goes_on_in(&self, next: &Spot<'_>) -> bool
+        ensures ascii { IsTrue result → IsAscii self.now.text.now × IsAscii next.now.text.now }
+        ensures paint { IsTrue result → self.now.paint ≡ next.now.paint }
+        ensures joined { IsAscii self.now.text.now → IsAscii next.now.text.now → self.now.paint ≡ next.now.paint → result ≡ true }
+    {
         let is_ascii = self.text.is_ascii() && next.text.is_ascii();
         is_ascii && self.paint == next.paint
     }
@@ -67,7 +75,9 @@ impl Spot<'_> {
     }
 
     /// Returns whether the spot covers a column.
-    pub fn covers(&self, col: u16) -> bool {
+    pub fn covers(&self, col: u16) -> bool
+        ensures { result ≡ covers_column self.now.col self.now.cols col }
+    {
         self.col <= col && u32::from(col) < self.end()
     }
 }
@@ -75,7 +85,9 @@ impl Spot<'_> {
 impl Paint {
     /// Returns the colors and style of a cell. Inverse video exchanges the two colors, and the
     /// color of dim text is halfway to its background.
-    fn of(cell: &Cell) -> Paint {
+    fn of(cell: &Cell) -> Paint
+        ensures { result ≡ paint_of (attrs_of cell.now) }
+    {
         let ink = Rgb::of(cell.fgcolor(), INK);
         let paper = Rgb::of(cell.bgcolor(), PAPER);
         let (ink, paper) = if cell.inverse() {
@@ -93,7 +105,9 @@ impl Paint {
     }
 
     /// Returns a copy with the foreground and background colors exchanged.
-    fn inverted(self) -> Paint {
+    fn inverted(self) -> Paint
+        ensures { result ≡ inverted_paint self }
+    {
         Paint {
             ink: self.paper,
             paper: self.ink,
@@ -104,7 +118,9 @@ impl Paint {
 
 impl Mark {
     /// Returns the marking for a cursor style. A blinking cursor is drawn as a steady one.
-    pub fn of(style: CursorStyle) -> Mark {
+    pub fn of(style: CursorStyle) -> Mark
+        ensures { result ≡ mark_of style }
+    {
         match style {
             CursorStyle::Default | CursorStyle::BlinkBlock | CursorStyle::SteadyBlock => {
                 Mark::Block
@@ -121,6 +137,8 @@ pub fn cursor_col(screen: &Screen, row: u16) -> Option<u16>
     ensures inside { IfSome result (λ col. col < screen.now.page.width) }
     ensures hidden { screen.now.hidden ≡ true → result ≡ None }
     ensures row { IfSome result (λ col. row ≡ screen.now.page.row) }
+    ensures column { IfSome result (λ col. col ≡ min screen.now.page.column (screen.now.page.width - 1)) }
+    ensures visible { screen.now.hidden ≡ false → screen.now.page.row ≡ row → IsSome result }
 {
     let (_, cols) = screen.size();
     let (cursor_row, cursor_col) = screen.cursor_position();
@@ -145,19 +163,37 @@ pub fn spots_of(alloc: Global, screen: &Screen, row: u16) -> Result<Vec<Spot<'_>
     Ok(spots)
 }
 
-fn seen_spot<'a>(screen: &Screen, row: u16, col: u16, cell: &'a Cell) -> Spot<'a> {
+/// Returns the glyph or the blank of the cell at a position. A block cursor exchanges its colors.
+fn seen_spot<'a>(screen: &Screen, row: u16, col: u16, cell: &'a Cell) -> Spot<'a>
+    ensures col { result.col ≡ col }
+    ensures cols { result.cols ≡ columns_of cell.now }
+    ensures text { result.text.now ≡ text_of cell.now }
+    ensures paint { result.paint ≡ paint_on screen.now row col cell.now }
+{
     let plain = Spot {
         col,
         cols: if cell.is_wide() { 2 } else { 1 },
         text: cell.contents(),
         paint: Paint::of(cell),
     };
-    let is_marked = cursor_col(screen, row).is_some_and(|col| plain.covers(col));
-    if is_marked && Mark::of(screen.cursor_style()) == Mark::Block {
+    if is_under_block(screen, row, &plain) {
         return Spot {
             paint: plain.paint.inverted(),
             ..plain
         };
     }
     plain
+}
+
+/// Returns whether a visible block cursor is on the spot, which is in row `row`.
+fn is_under_block(screen: &Screen, row: u16, spot: &Spot<'_>) -> bool
+    ensures { result ≡ has_block screen.now row spot.now.col spot.now.cols }
+{
+    match Mark::of(screen.cursor_style()) {
+        Mark::Block => match cursor_col(screen, row) {
+            Some(col) => spot.covers(col),
+            None => false,
+        },
+        Mark::Underline | Mark::Bar => false,
+    }
 }
