@@ -19,7 +19,7 @@ foreground_of attrs = rgb_of default_foreground attrs.fgcolor
 abbrev pub background_of : Attrs → Rgb
 background_of attrs = rgb_of default_background attrs.bgcolor
 
--- The color behind a glyph: its background color, or its foreground color in inverse video.
+-- The color under a glyph: its background color, or its foreground color in inverse video.
 abbrev pub paper_of : Attrs → Rgb
 paper_of attrs = if attrs.inverse then foreground_of attrs else background_of attrs
 
@@ -27,7 +27,7 @@ paper_of attrs = if attrs.inverse then foreground_of attrs else background_of at
 abbrev pub full_ink_of : Attrs → Rgb
 full_ink_of attrs = if attrs.inverse then background_of attrs else foreground_of attrs
 
--- The color of a glyph. That of dim text is halfway to the color behind it.
+-- The color of a glyph. That of dim text is halfway to the color under it.
 abbrev pub ink_of : Attrs → Rgb
 ink_of attrs = if is_dim attrs then middle_color (full_ink_of attrs) (paper_of attrs) else full_ink_of attrs
 
