@@ -1,6 +1,6 @@
 -- Cells are the same once they are packed and unpacked.
 use Rattle.std.proofs.Common.{◌≡◌, ℕ, ◌+◌, ◌-◌, ◌≤◌, ◌&&◌, Bool, true, false, List, [], ◌∷◌, ◌++◌, length, map}
-use Rattle.std.proofs.Common.{refl, sym, ap, ap₂, ◌∙◌, arith, zero, suc, subst, inl, inr, append_assoc, add-one}
+use Rattle.std.proofs.Common.{refl, sym, ap, ap₂, ◌∙◌, arith, take, drop, take-append-drop, zero, suc, subst, inl, inr, append_assoc, append-nil, add-one}
 use Rattle.std.specs.Prelude.{if◌then◌else◌}
 use Rattle.std.specs.List.{AllByRecursion, list_all}
 use Rattle.std.proofs.lemmas.Bool.{cases_lt}
@@ -16,9 +16,12 @@ use Rattle.vt_rows.proofs.Edits.{at-blanks, at-past}
 use Rattle.vt_rows.proofs.Rows.{IsPaired-trimmed, at-trimmed, length-trimmed}
 use Rattle.vt_packed.specs.Items.{Item, Style, IsItem, IsItemText, cells_of, cells_of_parts, items_of, style_of}
 use Rattle.vt_packed.specs.Items.{stored_text, stored_texts}
-use Rattle.vt_packed.specs.Packed.{AreCounted, IsPacked, Packs, items_from, padded, styles_of}
+use Rattle.vt_packed.specs.Packed.{AreCounted, IsPacked, Packs, extends, items_from, packed_runs, packed_text, padded, run_of}
+use Rattle.vt_packed.specs.Packed.{runs_of, styles_of}
 use Rattle.vt_packed.specs.declared.runs.Run.{Run}
+use Rattle.vt_packed.specs.Internals.{AddsCell, full_run, last_or, pushed, runs_with}
 use Rattle.vt_packed.proofs.ItemLists.{items_back}
+use Rattle.vt_packed.proofs.Styles.{Adds, begins_last, counted_runs, joins_last, runs_longer, runs_more, styles_back}
 
 -- ==== Packing cell by cell
 
@@ -41,43 +44,156 @@ all_push : (xs : List CellValue) (x : CellValue) → AllByRecursion IsCell xs �
 all_push [] x all h = (h, tt)
 all_push (y ∷ xs) x all h = (all.0, all_push xs x all.1 h)
 
--- A continuation cell has no item.
-pub half_items : (x : CellValue) → is_right_half x ≡ true → items_of (x ∷ []) ≡ []
-half_items (blank attrs) e = absurd (cc)
-half_items (glyph text wide attrs) e = absurd (cc)
-half_items right_half e = refl
-
--- The item of a blank or a glyph.
-pub one_item : (x : CellValue) → is_right_half x ≡ false →
-    items_of (x ∷ []) ≡ record { style = style_of (attrs_of x) (is_wide x); text = text_of x } ∷ []
-one_item (blank attrs) e = refl
-one_item (glyph text wide attrs) e = refl
-one_item right_half e = absurd (cc)
+styles_more : (cells : List CellValue) (x : CellValue) →
+    runs_of (map (λ (i : Item). i.style) (items_of cells) ++ map (λ (i : Item). i.style) (items_of (x ∷ [])))
+    ≡ packed_runs (cells ++ x ∷ [])
+styles_more cells x =
+    ap runs_of (sym (map-append (λ (i : Item). i.style) (items_of cells) (items_of (x ∷ [])))
+    ∙ ap (map (λ (i : Item). i.style)) (sym (items_of-append cells (x ∷ []))))
 
 pub packs_none : Packs [] [] []
-packs_none = record { counted = tt; styles = refl; stored = refl; sound = tt }
+packs_none = record { are_runs = refl; is_text = refl; sound = tt }
+
+-- The runs of cells and one more.
+pub packed_runs-more : (cells : List CellValue) (x : CellValue) →
+    runs_with (packed_runs cells) x ≡ packed_runs (cells ++ x ∷ [])
+packed_runs-more cells (blank attrs) =
+    sym (runs_more (map (λ (i : Item). i.style) (items_of cells)) (style_of attrs false)) ∙ styles_more cells (blank attrs)
+packed_runs-more cells (glyph text wide attrs) =
+    sym (runs_more (map (λ (i : Item). i.style) (items_of cells)) (style_of attrs wide))
+    ∙ styles_more cells (glyph text wide attrs)
+packed_runs-more cells right_half =
+    ap runs_of (sym (append-nil (map (λ (i : Item). i.style) (items_of cells)))) ∙ styles_more cells right_half
+
+-- The text of cells and one more.
+pub packed_text-more : (cells : List CellValue) (x : CellValue) →
+    packed_text cells ++ packed_text (x ∷ []) ≡ packed_text (cells ++ x ∷ [])
+packed_text-more cells x =
+    sym (stored_texts-append (items_of cells) (items_of (x ∷ []))) ∙ ap stored_texts (sym (items_of-append cells (x ∷ [])))
 
 -- One more cell is packed.
 pub packs_more : (cells : List CellValue) (x : CellValue) (runs more : List Run) (text longer : List ℕ) →
-    Packs cells runs text → styles_of more ≡ styles_of runs ++ map (λ (i : Item). i.style) (items_of (x ∷ [])) →
-    longer ≡ text ++ stored_texts (items_of (x ∷ [])) → (AreCounted runs → AreCounted more) → IsCell x →
+    Packs cells runs text → more ≡ runs_with runs x → longer ≡ text ++ packed_text (x ∷ []) → IsCell x →
     Packs (cells ++ x ∷ []) more longer
-packs_more cells x runs more text longer p styles stored counted sound = record {
-  counted = counted p.counted;
-  styles =
-      styles
-      ∙ (ap (λ (ss : List Style). ss ++ map (λ (i : Item). i.style) (items_of (x ∷ []))) p.styles
-      ∙ (sym (map-append (λ (i : Item). i.style) (items_of cells) (items_of (x ∷ [])))
-      ∙ ap (map (λ (i : Item). i.style)) (sym (items_of-append cells (x ∷ [])))));
-  stored =
-      stored
-      ∙ (ap (λ (bytes : List ℕ). bytes ++ stored_texts (items_of (x ∷ []))) p.stored
-      ∙ (sym (stored_texts-append (items_of cells) (items_of (x ∷ [])))
-      ∙ ap stored_texts (sym (items_of-append cells (x ∷ [])))));
+packs_more cells x runs more text longer p new_runs new_text sound = record {
+  are_runs = new_runs ∙ (ap (λ (rs : List Run). runs_with rs x) p.are_runs ∙ packed_runs-more cells x);
+  is_text = new_text ∙ (ap (λ (bytes : List ℕ). bytes ++ packed_text (x ∷ [])) p.is_text ∙ packed_text-more cells x);
   sound = all_push cells x p.sound sound;
 }
 
+-- More cells have no fewer runs.
+pub packed_runs-longer : (cells more : List CellValue) →
+    length (packed_runs cells) ≤ length (packed_runs (cells ++ more))
+packed_runs-longer cells more =
+    let longer = runs_longer (map (λ (i : Item). i.style) (items_of cells)) (map (λ (i : Item). i.style) (items_of more)) in
+    let all = ap (λ (ss : List Style). length (runs_of ss))
+    (sym (map-append (λ (i : Item). i.style) (items_of cells) (items_of more))
+    ∙ ap (map (λ (i : Item). i.style)) (sym (items_of-append cells more))) in
+    omega (arith, longer, all)
+
+-- More cells have no shorter text.
+pub packed_text-longer : (cells more : List CellValue) →
+    length (packed_text cells) ≤ length (packed_text (cells ++ more))
+packed_text-longer cells more =
+    let sum = length-append (packed_text cells) (packed_text more) in
+    let all = ap (λ (bytes : List ℕ). length bytes)
+    (sym (stored_texts-append (items_of cells) (items_of more)) ∙ ap stored_texts (sym (items_of-append cells more))) in
+    omega (arith, sum, all)
+
+-- ---- The runs that a single cell begins
+
+pub runs_with-half : (runs : List Run) (x : CellValue) → is_right_half x ≡ true → runs_with runs x ≡ runs
+runs_with-half runs (blank attrs) e = absurd (cc)
+runs_with-half runs (glyph text wide attrs) e = absurd (cc)
+runs_with-half runs right_half e = refl
+
+pub runs_with-item : (runs : List Run) (x : CellValue) → is_right_half x ≡ false →
+    runs_with runs x ≡ pushed runs (style_of (attrs_of x) (is_wide x))
+runs_with-item runs (blank attrs) e = refl
+runs_with-item runs (glyph text wide attrs) e = refl
+runs_with-item runs right_half e = absurd (cc)
+
+pub text_of-half : (x : CellValue) → is_right_half x ≡ true → packed_text (x ∷ []) ≡ []
+text_of-half (blank attrs) e = absurd (cc)
+text_of-half (glyph text wide attrs) e = absurd (cc)
+text_of-half right_half e = refl
+
+pub text_of-item : (x : CellValue) → is_right_half x ≡ false → packed_text (x ∷ []) ≡ stored_text (text_of x)
+text_of-item (blank attrs) e = append-nil (stored_text [])
+text_of-item (glyph text wide attrs) e = append-nil (stored_text text)
+text_of-item right_half e = absurd (cc)
+
+-- A continuation cell begins no run.
+pub adds_half : (runs : List Run) (last : Run) (x : CellValue) → is_right_half x ≡ true → last ≡ last_or full_run runs →
+    AddsCell runs x 0 last
+adds_half runs last x e is =
+    let same = runs_with-half runs x e in record {
+      has_count = ap (λ (rs : List Run). length rs) same ∙ (let n : length runs ≡ length runs + 0 = omega arith in n);
+      is_last = is ∙ ap (last_or full_run) (sym same);
+    }
+
+adds_by : (runs : List Run) (last new : Run) (style : Style) (n : ℕ) (b : Bool) → last ≡ last_or full_run runs →
+    extends style last ≡ b → n ≡ (if b then 0 else 1) →
+    new ≡ (if b then record last { count = last.count + 1 } else run_of style) → Adds full_run runs n new style
+adds_by runs last new style n true is e count after =
+    subst (λ (m : ℕ). Adds full_run runs m new style) (sym count)
+    (subst (λ (r : Run). Adds full_run runs 0 r style)
+    (ap (λ (r : Run). record r { count = r.count + 1 }) (sym is) ∙ sym after)
+    (joins_last full_run runs style refl (ap (extends style) (sym is) ∙ e)))
+adds_by runs last new style n false is e count after =
+    subst (λ (m : ℕ). Adds full_run runs m new style) (sym count)
+    (subst (λ (r : Run). Adds full_run runs 1 r style) (sym after)
+    (begins_last full_run runs style (ap (extends style) (sym is) ∙ e)))
+
+-- A blank or a glyph is added to the last run, or begins a run.
+pub adds_item : (runs : List Run) (last new : Run) (attrs : Attrs) (wide : Bool) (x : CellValue) (n : ℕ) →
+    is_right_half x ≡ false → attrs ≡ attrs_of x → wide ≡ is_wide x → last ≡ last_or full_run runs →
+    n ≡ (if extends (style_of attrs wide) last then 0 else 1) →
+    new ≡ (if extends (style_of attrs wide) last then record last { count = last.count + 1 } else run_of (style_of attrs wide)) →
+    AddsCell runs x n new
+adds_item runs last new attrs wide x n e is_attrs is_wide' is count after =
+    let style = style_of attrs wide in
+    let adds = adds_by runs last new style n (extends style last) is refl count after in
+    let same : runs_with runs x ≡ pushed runs style = runs_with-item runs x e
+    ∙ ap₂ (λ (a : Attrs) (w : Bool). pushed runs (style_of a w)) (sym is_attrs) (sym is_wide') in record {
+      has_count = ap (λ (rs : List Run). length rs) same ∙ adds.has_count;
+      is_last = adds.is_last ∙ ap (last_or full_run) (sym same);
+    }
+
+-- ---- Memory for the cells before the last one suffices
+
+pub runs_fit : (cells front : List CellValue) (x : CellValue) (n : ℕ) → take n cells ≡ front ++ x ∷ [] →
+    length (runs_with (packed_runs front) x) ≤ length (packed_runs cells)
+runs_fit cells front x n e =
+    let more = ap (λ (rs : List Run). length rs)
+    (packed_runs-more front x ∙ ap packed_runs (sym e)) in
+    let longer = packed_runs-longer (take n cells) (drop n cells) in
+    let all = ap (λ (xs : List CellValue). length (packed_runs xs)) (take-append-drop n cells) in
+    omega (arith, more, longer, all)
+
+pub text_fits : (cells front : List CellValue) (x : CellValue) (n : ℕ) → take n cells ≡ front ++ x ∷ [] →
+    length (packed_text front ++ packed_text (x ∷ [])) ≤ length (packed_text cells)
+text_fits cells front x n e =
+    let more = ap (λ (bytes : List ℕ). length bytes)
+    (packed_text-more front x ∙ ap packed_text (sym e)) in
+    let longer = packed_text-longer (take n cells) (drop n cells) in
+    let all = ap (λ (xs : List CellValue). length (packed_text xs)) (take-append-drop n cells) in
+    omega (arith, more, longer, all)
+
 -- ==== The cells of items
+
+items_by : (wide : Bool) (text : List ℕ) (attrs : Attrs) (rest : List CellValue) →
+    items_of (cells_of_parts wide text attrs ++ rest) ≡ record { style = style_of attrs wide; text = text } ∷ items_of rest
+items_by true text attrs rest = refl
+items_by false [] attrs rest = refl
+items_by false (byte ∷ text) attrs rest = refl
+
+-- Items are the items of their cells.
+pub items_again : (items : List Item) → items_of (cells_of items) ≡ items
+items_again [] = refl
+items_again (item ∷ items) =
+    items_by item.style.wide item.text item.style.attrs (cells_of items)
+    ∙ ap (λ (rest : List Item). item ∷ rest) (items_again items)
 
 narrow_item : (text : List ℕ) (attrs : Attrs) → IsCell (glyph text false attrs) → IsItemText false text
 narrow_item [] attrs h = tt
@@ -203,7 +319,8 @@ padded_trimmed cells =
 items_packed : (cells : List CellValue) (runs : List Run) (text : List ℕ) → Packs cells runs text →
     items_from (styles_of runs) text ≡ items_of cells
 items_packed cells runs text p =
-    ap₂ items_from p.styles p.stored ∙ items_back (items_of cells) (items_sound cells p.sound)
+    let styles = ap styles_of p.are_runs ∙ styles_back (map (λ (i : Item). i.style) (items_of cells)) in
+    ap₂ items_from styles p.is_text ∙ items_back (items_of cells) (items_sound cells p.sound)
 
 -- The cells of a packed row are those that were packed.
 unpacked : (cells : List CellValue) (runs : List Run) (text : List ℕ) → IsPaired cells →
@@ -218,9 +335,12 @@ IsPacked-packs cells runs text paired p =
     let kept = cells_without_end cells in
     let items = items_packed kept runs text p in
     let are = unpacked cells runs text paired p in record {
-      counted = p.counted;
+      counted = subst AreCounted (sym p.are_runs) (counted_runs (map (λ (i : Item). i.style) (items_of kept)));
+      joined = p.are_runs
+          ∙ (ap runs_of (sym (styles_back (map (λ (i : Item). i.style) (items_of kept))))
+          ∙ ap (λ (rs : List Run). runs_of (styles_of rs)) (sym p.are_runs));
       items = record {
-        stored = p.stored ∙ ap stored_texts (sym items);
+        stored = p.is_text ∙ ap stored_texts (sym items);
         sound = subst (AllByRecursion IsItem) (sym items) (items_sound kept p.sound);
       };
       inside = subst (λ (ys : List CellValue). length ys ≤ length cells) (sym are) (length-trimmed cells);

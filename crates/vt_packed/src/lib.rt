@@ -7,6 +7,7 @@ pub mod laws;
 mod packing;
 mod row;
 mod runs;
+mod size;
 mod texts;
 mod unpacking;
 

@@ -1,94 +1,43 @@
 //! Packing of cells: the runs and the stored texts of their items.
 
-ghost use Rattle.std.specs.Prelude.{◌≡◌, [], ◌∷◌, ◌++◌, IfOk, OnOk, map};
-ghost use Rattle.vt_cells.specs.Refusals.{OnlyOutOfMemory};
+ghost use Rattle.std.specs.Prelude.{◌≡◌, ◌≤◌, [], ◌∷◌, ◌++◌, length, vec_capacity};
 ghost use Rattle.vt_cells.specs.Cell.{IsCell};
-ghost use Rattle.vt_packed.specs.Items.{items_of, stored_texts};
-ghost use Rattle.vt_packed.specs.Packed.{AreCounted, Packs, styles_of};
+ghost use Rattle.vt_packed.specs.Internals.{runs_with};
+ghost use Rattle.vt_packed.specs.Packed.{Packs, packed_runs, packed_text};
 
 use crate::runs::{Run, push_style};
-use crate::texts::{is_single, push_text};
-use std::alloc::Global;
-use vt_cells::{Attrs, Cell, Error, cell};
+use crate::texts::push_text;
+use vt_cells::{Cell, cell};
 
-/// The runs and the stored texts of packed cells.
-#[derive(Drop)]
-pub struct Packing {
-    pub runs: Vec<Run>,
-    pub text: Vec<u8>,
-}
-
-/// Packs `cells`, without their continuation cells.
-///
-/// # Errors
-///
-/// Returns [`Error::OutOfMemory`] if an allocation fails.
-pub fn packed_cells(alloc: Global, cells: &[Cell]) -> Result<Packing, Error>
-    ensures ok { IfOk result (λ packing. Packs cells.now packing.runs.items packing.text.items) }
-    ensures memory { OnlyOutOfMemory result }
+/// Packs `cells` into `runs` and `text`, which must be empty and have enough memory.
+pub fn push_cells(runs: &mut Vec<Run>, text: &mut Vec<u8>, cells: &[Cell])
+    requires no_runs { runs.old.items ≡ [] }
+    requires no_text { text.old.items ≡ [] }
+    requires runs { length (packed_runs cells.now) ≤ vec_capacity runs.old }
+    requires text { length (packed_text cells.now) ≤ vec_capacity text.old }
+    ensures { Packs cells.now runs.new.items text.new.items }
 {
-    let mut runs = Vec::with_capacity(alloc, run_count(cells))?;
-    let mut text = Vec::with_capacity(alloc, text_len(cells))?;
     for cell in cells {
-        push_cell(&mut runs, &mut text, cell)?;
+        push_cell(runs, text, cell);
     }
-    Ok(Packing { runs, text })
 }
 
-/// Adds the item of a cell after the items of `runs` and `text`. Adds nothing for a continuation
-/// cell.
-///
-/// # Errors
-///
-/// Returns [`Error::OutOfMemory`] if an allocation fails.
+/// Adds the item of a cell after the items of `runs` and `text`, which must have enough memory.
+/// Adds nothing for a continuation cell.
 #[inline]
-fn push_cell(runs: &mut Vec<Run>, text: &mut Vec<u8>, cell: &Cell) -> Result<(), Error>
-    ensures styles { OnOk result (styles_of runs.new.items
-        ≡ styles_of runs.old.items ++ map (λ item. item.style) (items_of (cell.now ∷ []))) }
-    ensures stored { OnOk result (text.new.items ≡ text.old.items ++ stored_texts (items_of (cell.now ∷ []))) }
-    ensures counted { OnOk result (AreCounted runs.old.items → AreCounted runs.new.items) }
+fn push_cell(runs: &mut Vec<Run>, text: &mut Vec<u8>, cell: &Cell)
+    requires runs { length (runs_with runs.old.items cell.now) ≤ vec_capacity runs.old }
+    requires text { length (text.old.items ++ packed_text (cell.now ∷ [])) ≤ vec_capacity text.old }
+    ensures runs { runs.new.items ≡ runs_with runs.old.items cell.now }
+    ensures text { text.new.items ≡ text.old.items ++ packed_text (cell.now ∷ []) }
+    ensures runs_capacity { vec_capacity runs.new ≡ vec_capacity runs.old }
+    ensures text_capacity { vec_capacity text.old ≤ vec_capacity text.new }
     ensures sound { IsCell cell.now }
-    ensures memory { OnlyOutOfMemory result }
 {
     let contents = cell.contents();
     if cell.is_wide_continuation() {
-        return Ok(());
+        return;
     }
-    push_style(runs, cell::attrs(cell), cell.is_wide())?;
-    push_text(text, contents.as_bytes())?;
-    Ok(())
-}
-
-/// Returns the number of runs of the items of `cells`, so that their memory can be allocated at
-/// once.
-fn run_count(cells: &[Cell]) -> usize {
-    let mut count: usize = 0;
-    let mut attrs = Attrs::new();
-    let mut wide = false;
-    for cell in cells {
-        if cell.is_wide_continuation() {
-            continue;
-        }
-        if count == 0 || cell.is_wide() != wide || !cell::has_attrs(cell, &attrs) {
-            count = count.saturating_add(1);
-            attrs = cell::attrs(cell);
-            wide = cell.is_wide();
-        }
-    }
-    count
-}
-
-/// Returns the number of bytes of the stored texts of `cells`, so that their memory can be
-/// allocated at once.
-fn text_len(cells: &[Cell]) -> usize {
-    let mut len: usize = 0;
-    for cell in cells {
-        if cell.is_wide_continuation() {
-            continue;
-        }
-        let text = cell.contents().as_bytes();
-        let more = usize::from(!is_single(text));
-        len = len.saturating_add(text.len()).saturating_add(more);
-    }
-    len
+    push_style(runs, cell::attrs(cell), cell.is_wide());
+    push_text(text, contents.as_bytes());
 }

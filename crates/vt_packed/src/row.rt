@@ -1,15 +1,18 @@
 //! A row in packed form.
 
-ghost use Rattle.std.specs.Prelude.{◌≡◌, ◌*◌, ◌<◌, ◌≤◌, ◌++◌, [], IfOk, OnErr, OnOk, false, length};
+ghost use Rattle.std.specs.Prelude.{◌≡◌, ◌*◌, ◌<◌, ◌≤◌, ◌++◌, [], IfOk, IsOk, OnErr, OnOk};
+ghost use Rattle.std.specs.Prelude.{false, length, vec_capacity, vec_len};
 ghost use Rattle.vt_cells.specs.Refusals.{OnlyOutOfMemory};
 ghost use Rattle.vt_cells.specs.Sinks.{IsStopped};
+ghost use Rattle.vt_packed.specs.Packed.{FitsIn, packed_size};
 ghost use Rattle.vt_rows.specs.Basic.{basic_text, written_after};
 ghost use Rattle.vt_rows.specs.Cells.{IsPaired, cells_after_resize};
 
 use crate::basic::{write_item_texts, write_line_end};
 use crate::items::items_of;
-use crate::packing::packed_cells;
+use crate::packing::push_cells;
 use crate::runs::Run;
+use crate::size::size_of;
 use crate::unpacking::write_items;
 use std::alloc::Global;
 use std::marker::Model;
@@ -69,12 +72,57 @@ impl PackedRow {
         ensures ok { IfOk result (λ row. row ≡ record { cells = cells.now; wrapped = wrapped }) }
         ensures memory { OnlyOutOfMemory result }
     {
-        let packing = packed_cells(alloc, &cells[..trimmed_len(cells)])?;
+        let mut row = PackedRow::new(alloc);
+        row.repack(cells, wrapped)?;
+        Ok(row)
+    }
+
+    /// Reuses the row's memory: the row becomes one that consists of `cells`, and is wrapped if
+    /// `wrapped` is true.
+    ///
+    /// Every wide glyph must be followed by its continuation cell. The call takes no memory, and
+    /// succeeds, if the new row has no more runs and no more bytes of text than the old one.
+    ///
+    /// # Errors
+    ///
+    /// Returns [`Error::OutOfMemory`] if the row must grow and the allocation fails. The row is
+    /// then unchanged.
+    pub fn repack(&mut self, cells: &[Cell], wrapped: bool) -> Result<(), Error>
+        requires { IsPaired cells.now }
+        ensures ok { OnOk result (self.new ≡ record { cells = cells.now; wrapped = wrapped }) }
+        ensures err { OnErr result (self.new ≡ self.old) }
+        ensures fits { FitsIn (packed_size (record { cells = cells.now; wrapped = wrapped })) (packed_size self.old)
+            → IsOk result }
+        ensures memory { OnlyOutOfMemory result }
+    {
+        let kept = &cells[..trimmed_len(cells)];
+        let size = size_of(kept);
+        reserve_total(&mut self.runs, size.runs)?;
+        reserve_total(&mut self.text, size.text)?;
+        self.runs.clear();
+        self.text.clear();
+        push_cells(&mut self.runs, &mut self.text, kept);
+        self.cols = cells.len();
+        self.wrapped = wrapped;
+        Ok(())
+    }
+
+    /// Returns a copy of the row.
+    ///
+    /// # Errors
+    ///
+    /// Returns [`Error::OutOfMemory`] if the copy cannot be allocated.
+    pub fn try_clone(&self, alloc: Global) -> Result<PackedRow, Error>
+        ensures ok { IfOk result (λ row. row ≡ self.now) }
+        ensures memory { OnlyOutOfMemory result }
+    {
+        let runs = copied(alloc, &self.runs)?;
+        let text = copied(alloc, &self.text)?;
         Ok(PackedRow {
-            runs: packing.runs,
-            text: packing.text,
-            cols: cells.len(),
-            wrapped,
+            runs,
+            text,
+            cols: self.cols,
+            wrapped: self.wrapped,
         })
     }
 
@@ -94,10 +142,11 @@ impl PackedRow {
         self.wrapped
     }
 
-    /// Returns the number of runs and the number of bytes of text of the row. The memory of the row
-    /// consists of 16 bytes for each run, and of its text: at most 46 bytes for each column.
+    /// Returns the number of runs and the number of bytes of text of the row. The row takes 16 bytes
+    /// for each run, and one for each byte of text: at most 46 bytes for each column.
     #[inline]
     pub fn packed_len(&self) -> (usize, usize)
+        ensures size { packed_size self.now ≡ record { runs = result.0; text = result.1 } }
         ensures runs { result.0 ≤ length self.now.cells }
         ensures text { result.1 ≤ 30 * length self.now.cells }
     {
@@ -157,4 +206,34 @@ impl PackedRow {
         let last = write_item_texts(sink, &mut items_of(&self.runs, &self.text), attrs)?;
         Ok(last)
     }
+}
+
+/// Reserves memory for `len` elements of `items` in total. Allocates nothing if the vector already
+/// has that many elements, or memory for them.
+///
+/// # Errors
+///
+/// Returns [`Error::OutOfMemory`] if the allocation fails. The elements are unchanged in any case.
+fn reserve_total<T>(items: &mut Vec<T>, len: usize) -> Result<(), Error>
+    ensures items { items.new.items ≡ items.old.items }
+    ensures room { OnOk result (len ≤ vec_capacity items.new) }
+    ensures fits { len ≤ vec_len items.old → IsOk result }
+    ensures memory { OnlyOutOfMemory result }
+{
+    items.reserve_exact(len.saturating_sub(items.len()))?;
+    Ok(())
+}
+
+/// Returns a copy of the elements of `items`.
+///
+/// # Errors
+///
+/// Returns [`Error::OutOfMemory`] if the copy cannot be allocated.
+fn copied<T: Copy>(alloc: Global, items: &[T]) -> Result<Vec<T>, Error>
+    ensures ok { IfOk result (λ copies. copies.items ≡ items.now) }
+    ensures memory { OnlyOutOfMemory result }
+{
+    let mut copies = Vec::with_capacity(alloc, items.len())?;
+    copies.extend_from_slice(items)?;
+    Ok(copies)
 }

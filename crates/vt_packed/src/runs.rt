@@ -1,11 +1,11 @@
 //! Runs of items with equal styles.
 
-ghost use Rattle.std.specs.Prelude.{◌≡◌, ◌<◌, [], ◌∷◌, ◌++◌, OnOk, IsTrue};
-ghost use Rattle.vt_cells.specs.Refusals.{OnlyOutOfMemory};
+ghost use Rattle.std.specs.Prelude.{◌≡◌, ◌≤◌, length, vec_capacity};
+ghost use Rattle.vt_packed.specs.Internals.{pushed};
 ghost use Rattle.vt_packed.specs.Items.{style_of};
-ghost use Rattle.vt_packed.specs.Packed.{AreCounted, run_style, styles_of};
+ghost use Rattle.vt_packed.specs.Packed.{extends};
 
-use vt_cells::{Attrs, Error};
+use vt_cells::Attrs;
 
 /// A run of neighboring items that have the same attributes and are all wide glyphs, or all not.
 #[derive(Clone, Copy, Debug)]
@@ -18,36 +18,36 @@ pub struct Run {
     pub count: u16,
 }
 
-/// Returns whether an item with the given style can be added to the run.
+/// Returns whether an item with the given style is added to the run before it: the styles are
+/// equal, and the run is not full.
 #[inline]
-#[tactic(auto, using(crate::proofs::Styles::style_same))]
-fn has_room_for(run: &Run, attrs: &Attrs, wide: bool) -> bool
-    ensures style { IsTrue result → style_of attrs.now wide ≡ run_style run.now }
-    ensures room { IsTrue result → run.now.count < 65535 }
+pub fn is_extended(run: &Run, attrs: &Attrs, wide: bool) -> bool
+    ensures { result ≡ extends (style_of attrs.now wide) run.now }
 {
-    run.wide == wide && run.count < u16::MAX && run.attrs.is_same(attrs)
+    run.count < u16::MAX && run.wide == wide && run.attrs.is_same(attrs)
 }
 
-/// Adds an item with the given style after the items of `runs`.
-///
-/// # Errors
-///
-/// Returns [`Error::OutOfMemory`] if `runs` must grow and the allocation fails.
-pub fn push_style(runs: &mut Vec<Run>, attrs: Attrs, wide: bool) -> Result<(), Error>
-    ensures styles { OnOk result (styles_of runs.new.items ≡ styles_of runs.old.items ++ style_of attrs wide ∷ []) }
-    ensures counted { OnOk result (AreCounted runs.old.items → AreCounted runs.new.items) }
-    ensures memory { OnlyOutOfMemory result }
+/// Adds an item with the given style after the items of `runs`. Memory for its run must already be
+/// reserved.
+#[inline]
+pub fn push_style(runs: &mut Vec<Run>, attrs: Attrs, wide: bool)
+    requires { length (pushed runs.old.items (style_of attrs wide)) ≤ vec_capacity runs.old }
+    ensures runs { runs.new.items ≡ pushed runs.old.items (style_of attrs wide) }
+    ensures capacity { vec_capacity runs.new ≡ vec_capacity runs.old }
 {
-    let len = runs.len();
-    if len > 0 && has_room_for(&runs[len - 1], &attrs, wide) {
-        runs[len - 1].count += 1;
-        return Ok(());
-    }
-    runs.reserve(1)?;
-    runs.push_reserved(Run {
+    let run = Run {
         attrs,
         wide,
         count: 1,
-    });
-    Ok(())
+    };
+    let len = runs.len();
+    if len == 0 {
+        runs.push_reserved(run);
+        return;
+    }
+    if is_extended(&runs[len - 1], &attrs, wide) {
+        runs[len - 1].count += 1;
+        return;
+    }
+    runs.push_reserved(run);
 }

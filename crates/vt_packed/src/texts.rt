@@ -1,11 +1,8 @@
 //! The texts of items, stored one after the other.
 
-ghost use Rattle.std.specs.Prelude.{◌≡◌, ◌<◌, ◌≤◌, ◌+◌, ◌++◌, OnOk, length, slice_index};
-ghost use Rattle.vt_cells.specs.Refusals.{OnlyOutOfMemory};
+ghost use Rattle.std.specs.Prelude.{◌≡◌, ◌<◌, ◌≤◌, ◌+◌, ◌++◌, length, slice_index, vec_capacity, vec_len};
 ghost use Rattle.vt_packed.specs.Items.{after_first, first_text, is_length, is_single, lead_len};
 ghost use Rattle.vt_packed.specs.Items.{skipped_len, stored_text, text_len};
-
-use vt_cells::Error;
 
 /// Returns the number of bytes of a UTF-8 character that begins with `byte`, or 0 if `byte` is a
 /// continuation byte.
@@ -46,25 +43,19 @@ pub fn is_single(text: &[u8]) -> bool
     text.len() == lead_len(text[0])
 }
 
-/// Appends a text to the stored texts `bytes`. The text must be shorter than 64 bytes.
-///
-/// # Errors
-///
-/// Returns [`Error::OutOfMemory`] if `bytes` must grow and the allocation fails.
+/// Appends a text to the stored texts `bytes`. The text must be shorter than 64 bytes, and memory
+/// for it must already be reserved.
 #[tactic(auto, unfolding(crate::specs::Items::stored_text))]
-pub fn push_text(bytes: &mut Vec<u8>, text: &[u8]) -> Result<(), Error>
-    requires { length text.now < 64 }
-    ensures ok { OnOk result (bytes.new.items ≡ bytes.old.items ++ stored_text text.now) }
-    ensures memory { OnlyOutOfMemory result }
+pub fn push_text(bytes: &mut Vec<u8>, text: &[u8])
+    requires short { length text.now < 64 }
+    requires room { vec_len bytes.old + length (stored_text text.now) ≤ vec_capacity bytes.old }
+    ensures ok { bytes.new.items ≡ bytes.old.items ++ stored_text text.now }
+    ensures capacity { vec_capacity bytes.old ≤ vec_capacity bytes.new }
 {
-    if is_single(text) {
-        bytes.extend_from_slice(text)?;
-        return Ok(());
+    if !is_single(text) {
+        bytes.push_reserved(0x80 + text.len() as u8);
     }
-    bytes.reserve(1)?;
-    bytes.push_reserved(0x80 + text.len() as u8);
-    bytes.extend_from_slice(text)?;
-    Ok(())
+    let _ = bytes.extend_from_slice(text);
 }
 
 /// Returns the number of bytes before a stored text, given its first stored byte.
