@@ -50,7 +50,7 @@ class Source:
         """Returns a glyph in the last column of the last row or close to it, where more columns than it has here scroll."""
         rows, cols = self.size
         glyph = self.random.choice(UNCERTAIN if self.has_uncertain else NARROW + WIDE)
-        return f"\x1b[{rows};{cols - self.random.randint(0, 2)}H{glyph}"
+        return f"\x1b[{rows};{cols - self.random.choice((0, 0, 1))}H{glyph}"
 
     def edit(self):
         """Returns an erasure, a shift of rows or columns, or scrolling."""
@@ -76,7 +76,7 @@ class Source:
         )
         out = b""
         while len(out) < LENGTH:
-            out += self.random.choices(kinds, (35, 12, 9, 2, 18, 2, 15, 7))[0]().encode()
+            out += self.random.choices(kinds, (35, 12, 9, 5, 15, 2, 15, 7))[0]().encode()
         return out
 
 
