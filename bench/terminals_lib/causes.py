@@ -2,7 +2,7 @@
 
 import re
 
-from texts import BOLD, DIM
+from texts import BOLD, DIM, is_redraw
 from widths import unequal
 
 WIDTHS, WRAPPED, SHIFTED = "own widths", "wrap after own widths", "shifted by own widths"
@@ -11,7 +11,7 @@ PLACE, INTENSITY, WIDE, OTHER = "cursor's place", "bold and dim", "wide glyph", 
 LINE_FEED, ORPHAN, LOST = "line feed after a wide glyph", "half of a wide glyph", "lost glyph"
 COLUMNS = "wide glyphs in moved columns"
 # The causes that lie in the terminal, and those that portable output avoids. Scrolling is neither, since no later output
-# brings the rows back, and the order of bidirectional text is not, since it depends on sequences that the output chooses.
+# brings the rows back. The order of bidirectional text depends on sequences that diffs choose.
 OWN, AVOIDED = (WIDTHS, LINE_FEED, ORPHAN), (SHIFTED, WRAPPED, PLACE, INTENSITY, WIDE, LOST, COLUMNS)
 # From the least telling cause of a cell to the most telling one.
 CAUSES = (WIDTHS, ORPHAN, WRAPPED, SCROLLED, PLACE, INTENSITY, WIDE, OTHER)
@@ -82,5 +82,9 @@ def cause_of(places, screen, odd, needs_odd):
 
 
 def is_accepted(kind, cause):
-    """Returns whether a difference of this kind and cause lies in the terminal, or in what only portable output avoids."""
+    """Returns whether a difference of this kind and cause lies in the terminal, or in what only portable output avoids.
+    Paintings wrap no rows, so that redraws whose rows are wrapped differ from them in the order of bidirectional text.
+    """
+    if cause == REORDERED:
+        return is_redraw(kind)
     return cause in OWN or cause in AVOIDED and not kind.startswith("portable")

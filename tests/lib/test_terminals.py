@@ -233,9 +233,13 @@ class Accepted(unittest.TestCase):
             self.assertFalse(causes.is_accepted("portable scrolling", cause), cause)
 
     def test_what_is_never_accepted(self):
-        for cause in causes.SCROLLED, causes.REORDERED, causes.OTHER:
+        for cause in causes.SCROLLED, causes.OTHER:
             for kind in KINDS:
                 self.assertFalse(causes.is_accepted(kind, cause), (kind, cause))
+
+    def test_the_order_of_bidirectional_text(self):
+        for kind in KINDS:
+            self.assertEqual(causes.is_accepted(kind, causes.REORDERED), kind in ("redraw", "portable redraw"), kind)
 
     def test_scrolling_outweighs_other_widths(self):
         self.assertGreater(causes.CAUSES.index(causes.SCROLLED), causes.CAUSES.index(causes.WRAPPED))
