@@ -88,12 +88,10 @@ pub fn portable_update(mirror: &mut Mirror, viewer: u64) -> Result<Option<Update
     ensures everywhere { IfOk result (λ update.
         IfSome update (ShowsUpdate mirror.old.parser.screen (note_of mirror.old.viewers viewer))) }
 {
-    mirror.update_with(
-        viewer,
-        DiffOptions {
-            scroll: false,
-            repeat: Repeat::Never,
-            portable: true,
-        },
-    )
+    let options = DiffOptions {
+        scroll: false,
+        repeat: Repeat::Never,
+        portable: true,
+    };
+    mirror.update_with(viewer, options)
 }
