@@ -36,7 +36,7 @@ class Kitty:
 
     tries, repeats = 1, True
     # It fills erased cells with all attributes, where others use only the background.
-    blanks_have_marks, stays_on_wide, keeps_orphans = True, False, False
+    blanks_have_marks, stays_on_wide, keeps_orphans, reorders = True, False, False, False
 
     @staticmethod
     def is_there():
@@ -97,7 +97,7 @@ class XtermJs:
 
     # REP of version 3.8.1 does not move the cursor.
     tries, repeats, blanks_have_marks, stays_on_wide, keeps_orphans = 1, False, False, False, False
-    node, count = None, 0
+    reorders, node, count = False, None, 0
 
     @staticmethod
     def is_there():

@@ -5,10 +5,11 @@ import os
 import re
 import time
 
-from causes import LINE_FEED, ORPHAN, SCROLLED, WIDTHS, WRAPPED, cause_of, differences, is_line_feed
+from causes import COLUMNS, LINE_FEED, LOST, OTHER, ORPHAN, REORDERED, SCROLLED, WIDTHS, WRAPPED
+from causes import cause_of, differences, is_line_feed, is_lost_glyph, is_moved_columns
 from painting import painted
 from texts import KINDS, REPEATING, is_redraw, pair_of_updates, redraw_of, updates
-from widths import Twins, Widths, glyphs_of, wide_places
+from widths import Twins, Widths, glyphs_of, is_right_to_left, wide_places
 
 # Without SGR 0 first, xterm's RIS keeps the color of bold text.
 RESET = b"\x1b[m\x1bc\x1b[?25h"
@@ -95,6 +96,15 @@ class Terminals:
             self.get(name).read(text)
         return differences(self.get("one"), self.get("two"))
 
+    def screens(self, kind, update):
+        """Returns the screens that outputs of a kind have drawn since the redraw with which its chain began, if any."""
+        return [update] if is_redraw(kind) else [it for it in self.chains[kind] if it]
+
+    def twins(self, kind, update, odd):
+        """Returns what puts characters on whose width terminals agree in place of glyphs, given with their widths."""
+        screens = self.screens(kind, update)
+        return Twins(odd, {it[1] for screen in screens for row in screen.rows for it in glyphs_of(row)})
+
     def cause(self, places, kind, update, past):
         """Returns why cells differ after output of a kind. `past` are the last update that was compared, if any, and those
         after it up to this one.
@@ -102,15 +112,42 @@ class Terminals:
         if self.make.stays_on_wide and is_line_feed(places, update, update.outputs[kind]):
             return LINE_FEED
         self.widths = self.widths or Widths(self.make)
-        screens = [update] if is_redraw(kind) else [it for it in self.chains[kind] if it]
+        screens = self.screens(kind, update)
         odd_glyphs = {it[2:4] for screen in screens for it in self.widths.odd_glyphs(screen.rows)}
         texts = self.pair(kind, update)
         if not odd_glyphs or not self.differ(texts):
-            return cause_of(places, update, {}, False)
-        names = {it[1] for screen in screens for row in screen.rows for it in glyphs_of(row)}
-        twins = Twins(odd_glyphs, names)
+            return self.plain_cause(cause_of(places, update, {}, False), places, kind, update)
+        twins = self.twins(kind, update, odd_glyphs)
         needs_odd = not self.differ([twins.replace(text) for text in texts])
-        return cause_of(places, update, self.odd_places(kind, past), needs_odd)
+        cause = cause_of(places, update, self.odd_places(kind, past), needs_odd)
+        return cause if needs_odd else self.plain_cause(cause, places, kind, update)
+
+    def plain_cause(self, cause, places, kind, update):
+        """Returns why cells differ that no glyph of another width explains, where `cause` is what the screen tells."""
+        screens, texts = self.screens(kind, update), self.pair(kind, update)
+        outputs = [it.outputs[kind] for it in screens if kind in it.outputs]
+        if cause == OTHER and is_lost_glyph(places, update, outputs):
+            return LOST
+        if cause == OTHER and is_moved_columns(places, screens, outputs):
+            return COLUMNS
+        letters = {(it[1], it[2]) for one in screens for row in one.rows for it in glyphs_of(row) if is_right_to_left(it[1])}
+        if not self.make.reorders or not letters or not self.differ(texts):
+            return cause
+        twins = self.twins(kind, update, letters)
+        return cause if self.differ([twins.replace(text) for text in texts]) else REORDERED
+
+    def scrolled_places(self, kind, update):
+        """Returns the cells above the last row that differ if characters on whose width terminals agree are in place of the
+        glyphs of the last row that have no room in it. The painting does not tell, since it scrolls as well.
+        """
+        self.widths = self.widths or Widths(self.make)
+        odd = {it[2:4] for it in self.widths.scrolling_glyphs(update.rows)}
+        if not odd:
+            return []
+        text, twins = self.pair(kind, update)[0], self.twins(kind, update, odd)
+        own = self.widths.odd_places(update.rows)
+        found = self.differ([text, twins.replace(text)])
+        return [(row, col) for row, col in found if row < self.size[0] - 1 and (row, col) not in own]
 
     def odd_places(self, kind, past):
         """Returns the causes of the places on which glyphs with other widths have had an effect since the last update that
@@ -127,7 +164,7 @@ class Terminals:
                 orphans = moved(orphans, *words) | self.widths.orphan_places(moved(wide, *words), rows)
             wide, row = wide_places(rows), update.cursor[0]
         found = {}
-        if any(self.widths.scrolls(update.rows) for update in screens):
+        if any(any(self.widths.scrolling_glyphs(update.rows)) for update in screens):
             found = {(row, col): SCROLLED for row in range(self.size[0]) for col in range(self.size[1])}
         for cause, places in (ORPHAN, orphans), (WIDTHS, own), (WRAPPED, wrapped):
             found |= {place: cause for place in places}
@@ -155,10 +192,11 @@ class Terminals:
                 self.get(kind).read(RESET + update.outputs[kind])
             other = self.get("painting" if is_redraw(kind) else name)
             places = differences(self.get(kind), other)
-            if places:
-                cause = self.cause(places, kind, update, past)
-                found.append(Fault(kind, cause, number, places, update))
-            if places and not is_redraw(kind):
+            scrolled = self.scrolled_places(kind, update)
+            if scrolled or places:
+                cause = SCROLLED if scrolled else self.cause(places, kind, update, past)
+                found.append(Fault(kind, cause, number, scrolled or places, update))
+            if (scrolled or places) and not is_redraw(kind):
                 self.start(kind, update)
         return found
 

@@ -55,6 +55,7 @@ class Libvterm:
     # It fills erased cells with all attributes, as kitty does. While a wrap is pending after a wide glyph, its cursor is
     # in the glyph's first column, and remains there after a line feed.
     tries, repeats, blanks_have_marks, stays_on_wide, keeps_orphans = 1, False, True, True, False
+    reorders = False
 
     @staticmethod
     def is_there():

@@ -5,8 +5,15 @@ import random
 SIZES = (6, 20), (8, 13)
 LENGTH = 2400
 NARROW, WIDE = "─│éßλж", "漢字語한글日本"
-# Glyphs of several characters, and characters whose width depends on the version of Unicode or on the terminal.
-UNCERTAIN = "❤\ufe0f", "☀\ufe0f", "#\ufe0f", "1\ufe0f\u20e3", "e\u0301", "漢\u0301", "का", "🫠", "🫨", "⭐", "🇦"
+# Letters that are displayed from right to left, to which all terminals give one column, and digits, whose order depends on
+# the letters around them.
+BIDIRECTIONAL = "אבגדהسلم", "12 "
+# Glyphs of several characters, and characters whose width depends on the version of Unicode or on the terminal. The last
+# three are decomposed: a Latin letter, a Hangul syllable and a kana.
+UNCERTAIN = (
+    "❤\ufe0f", "☀\ufe0f", "#\ufe0f", "1\ufe0f\u20e3", "漢\u0301", "का", "🫠", "🫨", "⭐", "🇦",
+    "e\u0301", "\u1112\u1161\u11ab", "か\u3099",
+)
 ATTRIBUTES = ("", "1", "2", "3", "4", "7", "22", "23", "24", "27", "39", "49", "31", "42", "48;5;77", "38;2;95;0;255")
 CONTROLS = ("\r\n", "\n", "\r", "\t", "\b", "\x1bM", "\x1b[A", "\x1b[D", "\x1b[r", "\x1b[?25l", "\x1b[?25h")
 
@@ -19,11 +26,12 @@ class Source:
         self.has_uncertain = has_uncertain
 
     def text(self):
-        """Returns a run of glyphs: equal ones, wide ones, letters and blanks, or uncertain ones."""
+        """Returns a run of glyphs: equal ones, wide ones, letters and blanks, bidirectional ones, or uncertain ones."""
         pick, count = self.random.choice, self.random.randint(1, self.random.choice((6, self.size[1] + 3)))
         kinds = [lambda: pick("ab =-. x") * count, lambda: pick(NARROW) * count]
         kinds += [lambda: "".join(pick(WIDE) for _ in range(count % 4 + 1))]
         kinds += 2 * [lambda: "".join(pick("abcdefghijklmnopqrstuvwxyz     ") for _ in range(count))]
+        kinds += [lambda: "".join(pick(pick(BIDIRECTIONAL)) for _ in range(count))]
         if self.has_uncertain:
             kinds += 2 * [lambda: pick(UNCERTAIN) * (count % 3 + 1)]
         return pick(kinds)()
@@ -37,6 +45,12 @@ class Source:
         """Returns text at the end of a row, and sometimes a control after it."""
         after = self.random.choice(("", "", "\n", "\r\n", "\x1b[K", "\x1b[X", "x"))
         return self.move(max(1, self.size[1] - 4)) + self.text()[:4] + after
+
+    def corner(self):
+        """Returns a glyph in the last column of the last row or close to it, where more columns than it has here scroll."""
+        rows, cols = self.size
+        glyph = self.random.choice(UNCERTAIN if self.has_uncertain else NARROW + WIDE)
+        return f"\x1b[{rows};{cols - self.random.choice((0, 0, 1))}H{glyph}"
 
     def edit(self):
         """Returns an erasure, a shift of rows or columns, or scrolling."""
@@ -57,12 +71,12 @@ class Source:
     def stream(self):
         """Returns a stream of at least `LENGTH` bytes."""
         kinds = (
-            self.text, self.move, self.edge, self.edit, self.region,
+            self.text, self.move, self.edge, self.corner, self.edit, self.region,
             lambda: f"\x1b[{self.random.choice(ATTRIBUTES)}m", lambda: self.random.choice(CONTROLS),
         )
         out = b""
         while len(out) < LENGTH:
-            out += self.random.choices(kinds, (35, 12, 9, 20, 2, 15, 7))[0]().encode()
+            out += self.random.choices(kinds, (35, 12, 9, 5, 15, 2, 15, 7))[0]().encode()
         return out
 
 

@@ -11,6 +11,8 @@ class Vte:
     """A terminal of VTE, which is drawn into a picture in memory."""
 
     repeats, tries, blanks_have_marks, stays_on_wide, keeps_orphans = True, 1, False, False, False
+    # It orders the letters of bidirectional text for display, in all rows that are joined by wraps.
+    reorders = True
 
     @staticmethod
     def is_there():

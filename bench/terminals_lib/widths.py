@@ -4,6 +4,7 @@ terminals are taken to agree, as the definition lists them.
 
 import os
 import re
+import unicodedata
 
 from painting import sgr
 from texts import BOLD, ITALIC
@@ -34,6 +35,11 @@ def glyphs_of(row):
     for col, (glyph, look) in enumerate(row):
         if glyph:
             yield col, glyph, 2 if col + 1 < len(row) and row[col + 1][0] is None else 1, look[2]
+
+
+def is_right_to_left(glyph):
+    """Returns whether a glyph is a letter that is displayed from right to left."""
+    return unicodedata.bidirectional(glyph[0]) in ("R", "AL")
 
 
 def start_of(row, col):
@@ -137,14 +143,14 @@ class Widths:
                 found |= {(at, right) for right in range(col + columns, len(rows[at]))}
         return found
 
-    def scrolls(self, rows):
-        """Returns whether a glyph is printed beyond the end of the last row, so that the terminal scrolls."""
-        for at, col, glyph, width, marks in self.odd_glyphs(rows):
+    def scrolling_glyphs(self, rows):
+        """Yields the glyphs, as `odd_glyphs` does, that are printed beyond the end of the last row, so that the terminal
+        scrolls.
+        """
+        for _, col, glyph, width, marks in self.odd_glyphs(rows[-1:]):
             columns, changed = self.effect(glyph, marks)
-            end = col + max(columns, *(right + 1 for _, right in changed), 0)
-            if at == len(rows) - 1 and end > len(rows[at]):
-                return True
-        return False
+            if col + max(columns, *(right + 1 for _, right in changed), 0) > len(rows[-1]):
+                yield len(rows) - 1, col, glyph, width, marks
 
 
 def wide_places(rows):

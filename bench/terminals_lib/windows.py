@@ -105,7 +105,7 @@ class Window:
     # Whether its cursor is in the first column of a wide glyph at the end of a row, and remains there after a line feed.
     stays_on_wide = False
     # Whether the first half of a wide glyph whose second half is erased still takes two columns in pictures.
-    keeps_orphans = False
+    keeps_orphans = reorders = False
 
     @classmethod
     def is_there(cls):

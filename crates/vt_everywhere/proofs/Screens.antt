@@ -21,7 +21,7 @@ use Rattle.vt_terminals.proofs.Boxes.{box_chain_shows, box_difference_shows, box
 use Rattle.vt_everywhere.specs.Chains.{CanShowScreen, portable_texts}
 
 -- The picture of a screen that can be displayed can be displayed.
-picture_shows : (box : BlackBox) (near : Positions) (screen : ScreenValue) → CanShowScreen box near screen →
+pub picture_shows : (box : BlackBox) (near : Positions) (screen : ScreenValue) → CanShowScreen box near screen →
     CanShow box near (display screen)
 picture_shows box near screen can = record {
   sound = shown_is screen can.sound;

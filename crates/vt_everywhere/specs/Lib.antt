@@ -1,2 +1,3 @@
--- Chains of screens on every terminal
+-- Chains of screens, and viewers of mirrors, on every terminal
 pub mod Chains
+pub mod Viewers

@@ -186,6 +186,15 @@ box_difference_shows box lawful near self prev before can other attrs size flat 
     can.room
     other size flat can.width can.height shows.1 read.reads)
 
+-- The difference from a picture that can be displayed, too.
+pub box_next_shows : (box : BlackBox) → IsLawful box → (near : Positions) (self prev : Picture) (read : List ℕ) →
+    CanShow box near prev → CanShow box near self → ShowsAfter box near prev read →
+    ShowsAfter box near self (read ++ bytes_of_all (difference_in Portable self prev))
+box_next_shows box lawful near self prev read was can shows =
+    box_difference_shows box lawful near self prev read can was.sound was.colored.attrs
+    (record { width = can.width ∙ sym was.width; height = can.height ∙ sym was.height })
+    (placed_alike near prev was.sound was.steady was.room) shows
+
 -- Several differences, each from the previous picture to the next.
 changes_show : (box : BlackBox) → IsLawful box → (near : Positions) (self : Picture) (nexts : List Picture)
     (read : List ℕ) → CanShow box near self → AllByRecursion (CanShow box near) nexts → ShowsAfter box near self read →
@@ -194,9 +203,7 @@ changes_show box lawful near self [] read can all shows =
     subst (λ (z : List ℕ). ShowsAfter box near self z) (sym (append-nil read)) shows
 changes_show box lawful near self (x ∷ xs) read can all shows =
     let change = bytes_of_all (difference_in Portable x self) in
-    let next = box_difference_shows box lawful near x self read all.0 can.sound can.colored.attrs
-    (record { width = all.0.width ∙ sym can.width; height = all.0.height ∙ sym can.height })
-    (placed_alike near self can.sound can.steady can.room) shows in
+    let next = box_next_shows box lawful near x self read can all.0 shows in
     subst (λ (z : List ℕ). ShowsAfter box near (last_picture x xs) z) (append_assoc read change (portable_changes x xs))
     (changes_show box lawful near x xs (read ++ change) all.0 all.1 next)
 

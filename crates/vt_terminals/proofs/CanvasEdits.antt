@@ -23,10 +23,9 @@ use Rattle.vt_redraw.proofs.PortableSteps.{printed}
 use Rattle.vt_redraw.proofs.Touched.{some_same}
 use Rattle.vt_terminals.specs.CanvasTerminal.{SoundCanvas, canvas_terminal}
 use Rattle.vt_terminals.specs.Laws.{Apart, Away, Erased, Moved, Printed, Replaced, SameModes, glyph_cells}
-use Rattle.vt_terminals.specs.Sound.{IsSound}
 use Rattle.vt_terminals.proofs.Apart.{end_whole, new_here, next_same}
 use Rattle.vt_terminals.proofs.Characters.{printed_is, room_kept, room_wraps, some_columns}
-use Rattle.vt_terminals.proofs.Glyphs.{glyph_is, sound_wrapped, wrapped_is, wrapped_row}
+use Rattle.vt_terminals.proofs.Glyphs.{glyph_is, row_wrapped_page, sound_wrapped, wrapped_is, wrapped_row}
 use Rattle.vt_terminals.proofs.Ops.{feed_next}
 use Rattle.vt_terminals.proofs.Pages.{cell_here, cell_other, put_left, put_right}
 use Rattle.vt_terminals.proofs.Puts.{IsGlyph, page_put}
@@ -309,10 +308,6 @@ no_wrap c true page columns fits =
     ap (λ (o : Option ℕ). wraps_for o c page) columns
     ∙ and_right (nat_lt 1 page.width) (lacks_room 2 page) (le-ltb (page.width - 2) page.column (omega (arith, fits)))
 
-wrapped_page_row : (page : Page) → IsSound page → page.row + 1 < length page.rows →
-    (wrapped_page page).row ≡ page.row + 1
-wrapped_page_row page sound below = ap (λ (p : Page). p.row) (wrapped_is page sound below)
-
 pub model_wraps : (h w : ℕ) (s t : SoundCanvas h w) (r ch : ℕ) (wide : Bool) → r + 1 < h → glyph_columns wide ≤ w →
     columns_of ch ≡ Some (glyph_columns wide) → (s.canvas.page.row ≡ r) × (s.canvas.page.column ≡ w) →
     drawn_char ch s.canvas ≡ Some t.canvas →
@@ -342,7 +337,7 @@ model_wraps h w s t r ch wide low fits columns place reads =
       m,
       (
         (
-          wrapped_page_row page s.sound below ∙ ap (λ (k : ℕ). k + 1) row,
+          row_wrapped_page page s.sound below ∙ ap (λ (k : ℕ). k + 1) row,
           (column_wrapped_page page, let some = some_columns wide in omega (arith, some, fits)),
         ),
         (

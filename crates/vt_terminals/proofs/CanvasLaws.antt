@@ -1,7 +1,9 @@
 -- This project's own model of a terminal obeys the laws.
 use Rattle.std.proofs.Common.{◌≡◌, ℕ, suc, ◌+◌, ◌-◌, ◌<◌, ◌≤◌, ◌⊎◌, min, List, refl, inl, inr, sym, ap, ◌∙◌, arith}
+use Rattle.std.specs.Char.{encode_utf8}
 use Rattle.vt_cells.specs.Attrs.{Attrs, changed_attrs, default_attrs}
 use Rattle.vt_cells.specs.Cell.{is_right_half}
+use Rattle.vt_cells.specs.Glyph.{glyph_columns}
 use Rattle.vt_rows.specs.Cells.{at}
 use Rattle.vt_rows.specs.Row.{RowValue}
 use Rattle.vt_grid.specs.Canvas.{Canvas}
@@ -10,11 +12,12 @@ use Rattle.vt_grid.specs.Page.{cell_at, row_or}
 use Rattle.vt_grid.specs.declared.grid.moves.CursorMove.TheVariants.{Return, Right, Left}
 use Rattle.vt_redraw.proofs.Touched.{some_same}
 use Rattle.vt_terminals.specs.CanvasTerminal.{SoundCanvas, canvas_terminal}
-use Rattle.vt_terminals.specs.Laws.{Laws, SameCells}
+use Rattle.vt_terminals.specs.Laws.{Laws, SameCells, glyph_cells}
 use Rattle.vt_terminals.proofs.CanvasEdits.{model_prints, model_moved, model_at, some_width, model_wraps, model_cup}
 use Rattle.vt_terminals.proofs.CanvasEdits.{model_fed}
 use Rattle.vt_terminals.proofs.CanvasErasing.{same_cursor_at, model_ed, model_el, model_ech}
 use Rattle.vt_terminals.proofs.CanvasStrays.{model_strays}
+use Rattle.vt_terminals.proofs.Printed.{printed_after_move}
 
 -- ==== All laws
 
@@ -34,8 +37,11 @@ canvas_laws h w = record {
   prints = λ s t r c ch wide a low fits certain columns place attrs reads.
       model_prints h w s t r c ch wide a fits columns place attrs reads;
   strays = λ s t r c cs glyph low fits place reads. model_strays h w r c cs s t glyph fits place reads;
-  wraps = λ s t r ch wide low fits certain columns place reads.
-      model_wraps h w s t r ch wide low fits columns place reads;
+  wraps = λ s t r ch wide a low fits certain columns place attrs reads.
+      let down = model_wraps h w s t r ch wide low fits columns place reads in
+      printed_after_move (canvas_terminal h w) (r + 1) 0 (glyph_columns wide) (glyph_cells (encode_utf8 ch) wide a) s
+      down.0 t down.1.1.0 (model_prints h w down.0 t (r + 1) 0 ch wide a (omega (arith, fits)) columns down.1.0
+      (down.1.1.0.modes.attrs a attrs) down.1.1.1);
   cup = λ s t r c reads. model_cup h w s t r c reads;
   cr = λ s t r low place reads. let same = some_same (record (s.canvas) { page = moved Return s.canvas.page }) t.canvas
       reads in (

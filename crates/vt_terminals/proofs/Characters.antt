@@ -18,11 +18,11 @@ use Rattle.vt_redraw.specs.Uses.{HasColumns, IsBoundary, IsPortableCharacter, Po
 use Rattle.vt_redraw.specs.Uses.{may_print}
 use Rattle.vt_redraw.proofs.PortableSteps.{printed}
 use Rattle.vt_terminals.specs.Element.{Character}
-use Rattle.vt_terminals.specs.Laws.{Laws}
+use Rattle.vt_terminals.specs.Laws.{Laws, Printed, glyph_cells}
 use Rattle.vt_terminals.specs.Sound.{IsSound}
 use Rattle.vt_terminals.specs.Terminal.{ReadsAll, Terminal, Positions}
 use Rattle.vt_terminals.proofs.Agrees.{Agrees, IsTidyCharacter, torn_after_columns, torn_after_print, torn_after_text}
-use Rattle.vt_terminals.proofs.Glyphs.{glyph_agrees, sound_wrapped, wrap_agrees}
+use Rattle.vt_terminals.proofs.Glyphs.{glyph_agrees, printed_agrees, row_wrapped_page, sound_wrapped, wrap_agrees}
 use Rattle.vt_terminals.proofs.Pages.{fed_below}
 
 -- ==== Characters
@@ -132,15 +132,24 @@ character_wraps T laws near torn Pending shifted canvas next s t c wide h agrees
     let below = room_below c wide canvas next h.sound h.drawn h.columns fits last in
     let broad = agrees.width in
     let tall = agrees.height in
-    let step = laws.wraps s t canvas.page.row c wide (omega (arith, tall, below))
-    (omega (arith, broad, fits)) h.certain h.columns (agrees.cursor refl).1 reads in
-    let down = wrap_agrees T near torn Pending canvas s step.0 h.sound below agrees step.1.1.0 step.1.0 in
+    let printed = laws.wraps s t canvas.page.row c wide canvas.attrs (omega (arith, tall, below))
+    (omega (arith, broad, fits)) h.certain h.columns (agrees.cursor refl).1 agrees.attrs reads in
+    let down = wrap_agrees T near torn Pending canvas s h.sound below agrees in
     subst (λ (p : Page). Goal T near torn c wide canvas t p)
     (sym (room_wraps (glyph_columns wide) canvas.page (some_columns wide) fits last))
-    (glyph_agrees T laws near torn (record canvas { page = wrapped_page canvas.page }) step.0 t c wide
-    (sound_wrapped canvas.page h.sound below) down begin h.certain h.columns
-    (new_row_boundary canvas.page h.sound below) step.1.1.1)
+    (printed_agrees T near torn true Unsure (record canvas { page = wrapped_page canvas.page }) s t (encode_utf8 c) wide
+    (sound_wrapped canvas.page h.sound below) down begin (new_row_boundary canvas.page h.sound below)
+    (on_page below printed))
   where
+    PrintedAt : (r k : ℕ) → Type 0
+    PrintedAt r k = Printed T r k (glyph_columns wide) (glyph_cells (encode_utf8 c) wide canvas.attrs) s t
+
+    on_page : canvas.page.row + 1 < length canvas.page.rows → PrintedAt (canvas.page.row + 1) 0 →
+        PrintedAt (wrapped_page canvas.page).row (wrapped_page canvas.page).column
+    on_page below printed =
+        subst (λ (k : ℕ). PrintedAt (wrapped_page canvas.page).row k) (sym (column_wrapped_page canvas.page))
+        (subst (λ (r : ℕ). PrintedAt r 0) (sym (row_wrapped_page canvas.page h.sound below)) printed)
+
     begin : (wrapped_page canvas.page).column + glyph_columns wide ≤ (wrapped_page canvas.page).width
     begin =
         let first = column_wrapped_page canvas.page in

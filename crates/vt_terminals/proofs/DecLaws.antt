@@ -16,10 +16,11 @@ use Rattle.vt_terminals.specs.DecTerminal.{printed_at, down, dec_columns, printe
 use Rattle.vt_terminals.specs.DecTerminal.{style_after, dec_after, dec_terminal}
 use Rattle.vt_terminals.specs.Element.{Character, Ed}
 use Rattle.vt_terminals.specs.Laws.{Apart, Away, Beyond, Laws, Moved, Replaced, SameCells, SameCursor, Strayed}
-use Rattle.vt_terminals.specs.Laws.{stray_columns}
+use Rattle.vt_terminals.specs.Laws.{glyph_cells, stray_columns}
 use Rattle.vt_terminals.specs.Terminal.{ReadsAll}
 use Rattle.vt_terminals.proofs.DecEdits.{same_modes, dec_replaced, some_columns, first_square, dec_prints, dec_wraps}
 use Rattle.vt_terminals.proofs.DecEdits.{dec_erases}
+use Rattle.vt_terminals.proofs.Printed.{printed_after_move}
 
 -- ==== Characters on whose width terminals may disagree
 
@@ -254,7 +255,11 @@ dec_laws h w = record {
   strays = λ s t r c cs glyph low fits place reads. let column = place.1.0 in
       dec_strays h w r c (stray_columns cs) cs s t place.0 place.1.1 (omega (arith, column)) (omega (arith, column))
       fits reads;
-  wraps = λ s t r ch wide low fits certain columns place reads. dec_wraps h w s t r ch wide certain columns place reads;
+  wraps = λ s t r ch wide a low fits certain columns place style reads.
+      let down = dec_wraps h w s t r ch wide certain columns place reads in
+      printed_after_move (dec_terminal h w) (r + 1) 0 (glyph_columns wide) (glyph_cells (encode_utf8 ch) wide a) s
+      down.0 t down.1.1.0 (dec_prints h w down.0 t (r + 1) 0 ch wide a (omega (arith, fits)) certain columns down.1.0
+      (down.1.1.0.modes.attrs a style) down.1.1.1);
   cup = λ s t r c reads. (
     dec_at h w (min r (h - 1)) (min c (w - 1)) (min r (h - 1)) (min c (w - 1)) s t reads refl refl,
     dec_moved h w (min r (h - 1)) (min c (w - 1)) s t reads,

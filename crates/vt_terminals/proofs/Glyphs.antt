@@ -15,7 +15,7 @@ use Rattle.vt_grid.specs.Canvas.{Canvas}
 use Rattle.vt_grid.specs.Page.{Page, cell_at, cursor_row, row_at}
 use Rattle.vt_grid.specs.Printing.{glyph_put, goes_down, with_cursor_cells, wrapped_page}
 use Rattle.vt_redraw.specs.Certain.{is_certain}
-use Rattle.vt_redraw.specs.Doubts.{Wrap, NotPending, wrap_at}
+use Rattle.vt_redraw.specs.Doubts.{Wrap, NotPending, Unsure, wrap_at}
 use Rattle.vt_redraw.specs.Uses.{IsBoundary}
 use Rattle.vt_terminals.proofs.Agrees.{Agrees, CursorAgrees, torn_after_print}
 use Rattle.vt_terminals.specs.Element.{Character}
@@ -179,22 +179,39 @@ same_agrees T near torn shifted was now canvas page s t agrees wide tall cells s
       calm = λ f. absurd (cc);
     }
 
-pub wrap_agrees : (T : Terminal) (near torn : Positions) (was : Wrap) (canvas : Canvas) (s t : T.State) →
-    IsSound canvas.page →
-    canvas.page.row + 1 < length canvas.page.rows → Agrees T near torn false was canvas s → Moved T s t →
-    T.IsAt t (canvas.page.row + 1) 0 → Agrees T near torn false NotPending
-    (record canvas { page = wrapped_page canvas.page }) t
-wrap_agrees T near torn was canvas s t sound below agrees moved place =
-    subst (λ (p : Page). Agrees T near torn false NotPending (record canvas { page = p }) t)
+-- A wrap changes only the cursor and wrapped flags. The terminal wraps when it prints the next character, so nothing is
+-- known of its cursor.
+pub wrap_agrees : (T : Terminal) (near torn : Positions) (was : Wrap) (canvas : Canvas) (s : T.State) →
+    IsSound canvas.page → canvas.page.row + 1 < length canvas.page.rows → Agrees T near torn false was canvas s →
+    Agrees T near torn true Unsure (record canvas { page = wrapped_page canvas.page }) s
+wrap_agrees T near torn was canvas s sound below agrees =
+    subst (λ (p : Page). Agrees T near torn true Unsure (record canvas { page = p }) s)
     (sym (wrapped_is canvas.page sound below))
     (wrapped (goes_down canvas.page && not (ends_blank (cursor_row canvas.page).cells)))
   where
-    wrapped : (b : Bool) → Agrees T near torn false NotPending (record canvas { page = page_wrapped b canvas.page }) t
-    wrapped b =
-        same_agrees T near torn false was NotPending canvas (page_wrapped b canvas.page) s t agrees refl
-        (length-set canvas.page.rows canvas.page.row (record (row_at canvas.page canvas.page.row) { wrapped = b }))
-        (λ r k. ap (λ (cells : List CellValue). at cells k) (wrapped_row b canvas.page r sound.row)) refl refl moved
-        (sound.has_columns, place)
+    cell : (b : Bool) (r k : ℕ) → cell_at (page_wrapped b canvas.page) r k ≡ cell_at canvas.page r k
+    cell b r k = ap (λ (cells : List CellValue). at cells k) (wrapped_row b canvas.page r sound.row)
+
+    wrapped : (b : Bool) → Agrees T near torn true Unsure (record canvas { page = page_wrapped b canvas.page }) s
+    wrapped b = record {
+      width = agrees.width;
+      height =
+          length-set canvas.page.rows canvas.page.row (record (row_at canvas.page canvas.page.row) { wrapped = b })
+          ∙ agrees.height;
+      cells = λ r k low inside clear settled. subst (λ (x : CellValue). T.Shows s r k x) (sym (cell b r k))
+          (agrees.cells r k low inside clear settled);
+      begins = λ r k low inside sure whole.
+          agrees.begins r k low inside sure (ap is_right_half (sym (cell b r k)) ∙ whole);
+      attrs = agrees.attrs;
+      hidden = agrees.hidden;
+      saved = agrees.saved;
+      cursor = λ f. absurd (cc);
+      calm = λ _ f. absurd (cc);
+    }
+
+pub row_wrapped_page : (page : Page) → IsSound page → page.row + 1 < length page.rows →
+    (wrapped_page page).row ≡ page.row + 1
+row_wrapped_page page sound below = ap (λ (p : Page). p.row) (wrapped_is page sound below)
 
 -- ==== A glyph
 
@@ -210,6 +227,23 @@ glyph_is text true a o orphan = record {
   orphan = orphan;
 }
 
+pub printed_agrees : (T : Terminal) (near torn : Positions) (shifted : Bool) (wrap : Wrap) (canvas : Canvas)
+    (s t : T.State) (text : List ℕ) (wide : Bool) → IsSound canvas.page → Agrees T near torn shifted wrap canvas s →
+    canvas.page.column + glyph_columns wide ≤ canvas.page.width →
+    IsBoundary canvas.page.column (cursor_row canvas.page).cells →
+    Printed T canvas.page.row canvas.page.column (glyph_columns wide) (glyph_cells text wide canvas.attrs) s t →
+    Agrees T near (torn_after_print (glyph_columns wide) canvas.page torn) false
+    (wrap_at (canvas.page.column + glyph_columns wide) canvas.page.width)
+    (record canvas { page = glyph_put text wide canvas.attrs canvas.page }) t
+printed_agrees T near torn shifted wrap canvas s t text false sound agrees fits boundary printed =
+    put_agrees T near torn shifted wrap canvas s t 1 (glyph (0x20 ∷ []) false canvas.attrs)
+    (glyph text false canvas.attrs ∷ []) sound agrees fits
+    (glyph_is text false canvas.attrs (glyph (0x20 ∷ []) false canvas.attrs) refl) boundary printed
+printed_agrees T near torn shifted wrap canvas s t text true sound agrees fits boundary printed =
+    put_agrees T near torn shifted wrap canvas s t 2 (blank canvas.attrs)
+    (glyph text true canvas.attrs ∷ right_half ∷ []) sound agrees fits
+    (glyph_is text true canvas.attrs (blank canvas.attrs) refl) boundary printed
+
 pub glyph_agrees : (T : Terminal) → Laws T →
     (near torn : Positions) (canvas : Canvas) (s t : T.State) (c : ℕ) (wide : Bool) →
     IsSound canvas.page → Agrees T near torn false NotPending canvas s →
@@ -223,26 +257,6 @@ glyph_agrees T laws near torn canvas s t c wide sound agrees fits certain column
     let low = sound.row in
     let tall = agrees.height in
     let broad = agrees.width in
-    let some : 0 < glyph_columns wide = some_columns wide in
-    let printed = laws.prints s t canvas.page.row canvas.page.column c wide canvas.attrs
-    (omega (arith, low, tall)) (omega (arith, fits, broad)) certain columns (agrees.cursor refl).1 agrees.attrs reads in
-    by_width wide fits printed
-  where
-    some_columns : (wide : Bool) → 0 < glyph_columns wide
-    some_columns true = omega arith
-    some_columns false = omega arith
-
-    by_width : (wide : Bool) → canvas.page.column + glyph_columns wide ≤ canvas.page.width →
-        Printed T canvas.page.row canvas.page.column (glyph_columns wide)
-        (glyph_cells (encode_utf8 c) wide canvas.attrs) s t →
-        Agrees T near (torn_after_print (glyph_columns wide) canvas.page torn) false
-        (wrap_at (canvas.page.column + glyph_columns wide) canvas.page.width)
-        (record canvas { page = glyph_put (encode_utf8 c) wide canvas.attrs canvas.page }) t
-    by_width false fits printed =
-        put_agrees T near torn NotPending canvas s t 1 (glyph (0x20 ∷ []) false canvas.attrs)
-        (glyph (encode_utf8 c) false canvas.attrs ∷ []) sound agrees fits
-        (glyph_is (encode_utf8 c) false canvas.attrs (glyph (0x20 ∷ []) false canvas.attrs) refl) boundary printed
-    by_width true fits printed =
-        put_agrees T near torn NotPending canvas s t 2 (blank canvas.attrs)
-        (glyph (encode_utf8 c) true canvas.attrs ∷ right_half ∷ []) sound agrees fits
-        (glyph_is (encode_utf8 c) true canvas.attrs (blank canvas.attrs) refl) boundary printed
+    printed_agrees T near torn false NotPending canvas s t (encode_utf8 c) wide sound agrees fits boundary
+    (laws.prints s t canvas.page.row canvas.page.column c wide canvas.attrs
+    (omega (arith, low, tall)) (omega (arith, fits, broad)) certain columns (agrees.cursor refl).1 agrees.attrs reads)

@@ -27,6 +27,7 @@ mod Shown
 mod Every
 pub mod Boxes
 -- Terminals that obey the laws
+mod Printed
 mod CanvasEdits
 mod CanvasErasing
 mod CanvasStrays

@@ -205,16 +205,16 @@ row_of T near torn shifted wrap canvas s sound agrees boundary =
       begins = λ k inside sure whole. agrees.begins canvas.page.row k (omega (arith, low, tall)) inside sure whole;
     }
 
-pub put_agrees : (T : Terminal) (near torn : Positions) (wrap : Wrap) (canvas : Canvas) (s t : T.State) (n : ℕ)
-    (o : CellValue)
-    (new : List CellValue) → IsSound canvas.page → Agrees T near torn false wrap canvas s →
+pub put_agrees : (T : Terminal) (near torn : Positions) (shifted : Bool) (wrap : Wrap) (canvas : Canvas)
+    (s t : T.State) (n : ℕ) (o : CellValue) (new : List CellValue) → IsSound canvas.page →
+    Agrees T near torn shifted wrap canvas s →
     canvas.page.column + n ≤ canvas.page.width →
     IsGlyph n o new → IsBoundary canvas.page.column (cursor_row canvas.page).cells →
     Printed T canvas.page.row canvas.page.column n new s t →
     Agrees T near (torn_after_print n canvas.page torn) false (wrap_at (canvas.page.column + n) canvas.page.width)
     (record canvas { page = page_put n o new canvas.page }) t
-put_agrees T near torn wrap canvas s t n o new sound agrees fits glyph boundary printed =
-    let row = row_of T near torn false wrap canvas s sound agrees boundary in
+put_agrees T near torn shifted wrap canvas s t n o new sound agrees fits glyph boundary printed =
+    let row = row_of T near torn shifted wrap canvas s sound agrees boundary in
     let wide = agrees.width in
     let fit : canvas.page.column + n ≤ T.width = omega (arith, fits, wide) in
     record {

@@ -116,11 +116,11 @@ pub record Laws (T : Terminal) : Type 0 where
   -- two for each character (UAX #11).
   pub strays : (s t : T.State) (r c : ℕ) (cs : List ℕ) → IsOneGlyph cs → r < T.height → c + stray_columns cs < T.width →
       T.IsAt s r c → ReadsAll T (map Character cs) s t → Strayed T r c (stray_columns cs) s t
-  -- While a wrap is pending, such a character is printed as if the cursor were at the beginning of the next row (VT510
-  -- manual, DECAWM).
-  pub wraps : (s t : T.State) (r ch : ℕ) (wide : Bool) → r + 1 < T.height → glyph_columns wide ≤ T.width →
-      is_certain ch ≡ true → columns_of ch ≡ Some (glyph_columns wide) → T.IsPending s r → T.Reads (Character ch) s t →
-      (m : T.State) × (T.IsAt m (r + 1) 0 × (Moved T s m × T.Reads (Character ch) m t))
+  -- While a wrap is pending, such a character is printed at the beginning of the next row (VT510 manual, DECAWM).
+  pub wraps : (s t : T.State) (r ch : ℕ) (wide : Bool) (a : Attrs) → r + 1 < T.height → glyph_columns wide ≤ T.width →
+      is_certain ch ≡ true → columns_of ch ≡ Some (glyph_columns wide) → T.IsPending s r → T.HasAttrs s a →
+      T.Reads (Character ch) s t →
+      Printed T (r + 1) 0 (glyph_columns wide) (glyph_cells (encode_utf8 ch) wide a) s t
   -- CUP moves the cursor to a position, or to the nearest one on the screen, from any position (ECMA-48, 8.3.21).
   pub cup : (s t : T.State) (r c : ℕ) → T.Reads (Cup r c) s t →
       T.IsAt t (min r (T.height - 1)) (min c (T.width - 1)) × Moved T s t
